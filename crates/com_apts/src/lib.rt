@@ -227,8 +227,8 @@ fn made_by_thread(home: Option<u32>) -> Option<u32>
     }
 }
 
-#[tactic(auto, using(crate::proofs::LaneLemmas::ended_first_le, crate::proofs::LaneLemmas::ended_first_more, crate::proofs::LaneLemmas::ended_first_here))]
 // The first index from this one on that holds `false`, or the length. All before it hold `true`.
+#[tactic(auto, using(crate::proofs::LaneLemmas::ended_first_le, crate::proofs::LaneLemmas::ended_first_more, crate::proofs::LaneLemmas::ended_first_here))]
 fn oldest_from(ended: &[bool], from: usize) -> usize
     requires { from ≤ ended_first ended.now }
     ensures { result ≡ ended_first ended.now }

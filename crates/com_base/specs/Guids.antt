@@ -39,6 +39,7 @@ guid_of_wire bytes = record {
 abbrev pub reading_order_of : Guid → List ℕ
 reading_order_of g = to_be_bytes w32 g.data1 ++ to_be_bytes w16 g.data2 ++ to_be_bytes w16 g.data3 ++ g.data4
 
+-- The GUID that 16 bytes in this order are.
 abbrev pub guid_of_reading_order : List ℕ → Guid
 guid_of_reading_order bytes = record {
   data1 = from_be_bytes w32 (take 4 bytes);

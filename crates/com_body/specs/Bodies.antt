@@ -25,24 +25,31 @@ abbrev pub IsOp : Op → Type 0
 IsOp (op.Register number) = number < REGISTER_COUNT
 IsOp (op.Literal v) = Unit {0}
 
+-- The slot or the link that a statement names as a place has a number below its count.
 abbrev pub IsPlace : Place → Type 0
 IsPlace (place.Slot number) = number < SLOT_COUNT
 IsPlace (place.Link number) = number < LINK_COUNT
 
+-- The register or slot of an argument has a number below its count. A literal and the null reference have none.
 abbrev pub IsArg : Arg → Type 0
 IsArg (arg.Op operand) = IsOp operand
 IsArg (arg.Slot number) = number < SLOT_COUNT
 IsArg arg.Null = Unit {0}
 
+-- The register that an HRESULT is read from has a number below its count. A written HRESULT has none.
 abbrev pub IsCode : Code → Type 0
 IsCode (code.Literal answer) = Unit {0}
 IsCode (code.Register number) = number < REGISTER_COUNT
 
+-- The register or slot that a body's result is read from has a number below its count. No result and a literal
+-- have none.
 abbrev pub IsGiven : Given → Type 0
 IsGiven given.Nothing = Unit {0}
 IsGiven (given.Op operand) = IsOp operand
 IsGiven (given.Slot number) = number < SLOT_COUNT
 
+-- The register or slot that a call's result goes to has a number below its count. A result that is not kept
+-- needs none.
 abbrev pub IsDestination : Destination → Type 0
 IsDestination destination.Nowhere = Unit {0}
 IsDestination (destination.Register number) = number < REGISTER_COUNT

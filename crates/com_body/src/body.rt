@@ -92,6 +92,8 @@ fn skip_of(statement: &Stmt) -> u32
     }
 }
 
+// The number, from 0, of the first statement whose skip passes the end. A skip to exactly the end
+// does not pass it.
 fn first_past_end(statements: &[Stmt]) -> Option<u32>
     requires { length statements.now < 2 ^ 32 }
     ensures { result ≡ first_past_end statements.now 0 }

@@ -83,6 +83,7 @@ pub fn step_no_body(frame: Frame, cells: Cells) -> Outcome
     }
 }
 
+// The action at the end of a body: it leaves with S_OK and no value.
 fn leave_ok() -> Action
     ensures { result ≡ leave_ok }
 {

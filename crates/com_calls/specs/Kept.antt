@@ -14,12 +14,15 @@ pub record Kept : Type 0 where
   pub room : ℕ
   pub inboxes : ℕ
 
+-- Other tables of calls; the apartments of the targets, the room and the inboxes stay.
 abbrev pub with_tables : Kept → CallTables → Kept
 with_tables b t = record b { tables = t }
 
+-- Room for so many calls, and an inbox for each of so many apartments; the calls stay.
 abbrev pub with_room : Kept → (room inboxes : ℕ) → Kept
 with_room b n k = record b { room = n; inboxes = k }
 
+-- The tables before the first call.
 abbrev pub no_tables : CallTables
 no_tables = record {
   issues = [];
@@ -42,6 +45,7 @@ waits_at b a c =
     && (is_queued (from_one b.tables.phases c Unposted)
     && (is_none (from_one b.tables.admissions c None) && is_none (from_one b.tables.endings c None)))
 
+-- The calls that wait in an apartment's inbox, in the order of their last postings.
 abbrev pub inbox_at : Kept → (apartment : ℕ) → List ℕ
 inbox_at b a = filter (waits_at b a) b.tables.postings
 

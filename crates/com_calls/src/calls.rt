@@ -259,6 +259,7 @@ impl Calls {
         }
     }
 
+    // A disconnection fixes the answer of this call, where it reaches it.
     fn cut_one(&mut self, call: u32, cut: Cut)
         requires { 1 ≤ call }
         ensures { self.new ≡ with_tables self.old (cut_one_at self.old.tables call
@@ -269,6 +270,7 @@ impl Calls {
         }
     }
 
+    // Whether a disconnection reaches this call. A number without call is not reached.
     fn is_cut(&self, call: u32, cut: Cut) -> bool
         ensures { result ≡ cut_by self.now cut call }
     {

@@ -260,6 +260,8 @@ impl CallRow {
         }
     }
 
+    // The body of the call is entered: the row keeps its lane and its apartment, and lets go what
+    // the call sends.
     fn admit(&mut self, admission: Admission)
         requires { admission.call ≡ self.old.issue.call }
         ensures { self.new ≡ admitting admission self.old }
@@ -280,6 +282,8 @@ impl CallRow {
         }
     }
 
+    // An answer other than by the Leave of the body is fixed, unless one is fixed already. What the
+    // call sends is let go.
     fn end(&mut self, ending: Ending)
         requires { is_leave (Some ending) ≡ false }
         ensures { self.new ≡ ending_by ending self.old }
@@ -321,12 +325,14 @@ impl CallRow {
         }
     }
 
+    // The call comes back to its caller.
     fn give_back(&mut self)
         ensures { self.new ≡ returning self.old }
     {
         self.has_returned = true;
     }
 
+    // The call stands in another phase of its posting.
     fn set_phase(&mut self, phase: Phase)
         ensures { self.new ≡ phased phase self.old }
     {

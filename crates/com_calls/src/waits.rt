@@ -42,6 +42,7 @@ fn wait_of(rows: &[CallRow], call: u32, now: u64) -> Option<u64>
     }
 }
 
+// The time that a delayed call waits for, where it is later than `now` and the call has no answer.
 fn row_wait(row: &CallRow, now: u64) -> Option<u64>
     ensures { result ≡ wait_until now row.now.phase (is_some row.now.ending) }
 {
@@ -61,6 +62,7 @@ fn is_delayed(rows: &[CallRow], call: u32) -> bool
     }
 }
 
+// Whether a Retry delayed the call and it has no answer yet.
 fn is_row_delayed(row: &CallRow) -> bool
     ensures { result ≡ is_delayed row.now.phase row.now.ending }
 {

@@ -72,6 +72,7 @@ ilatch = record {
       record { name = codes "test"; params = []; result = Some kind.Bool } ∷ [];
 }
 
+-- The interfaces that every scenario begins with, in the order of their numbers, from 0.
 abbrev pub built_in_interfaces : List Interface
 built_in_interfaces = iunknown ∷ icounter ∷ irelay ∷ ilatch ∷ []
 

@@ -44,6 +44,7 @@ find_class t clsid = option_map (λ before. before + 1) (position (λ c. same_gu
 abbrev pub class_has : Class → ℕ → Bool
 class_has c iface = iface == 0 || list_any (λ listed. iface == listed) c.interfaces
 
+-- Whether the class with a number has an interface; a number without class has none, not even IUnknown.
 abbrev pub has_interface : Tables → ℕ → ℕ → Bool
 has_interface t class iface = elim (class_at t class) [ None ↦ false | Some c ↦ class_has c iface ]
 
@@ -63,9 +64,11 @@ kind_body native.Counter bodies iface method = if iface == 1 then slice_get coun
 kind_body native.Relay bodies iface method = if iface == 2 then slice_get relay_bodies method else None
 kind_body native.Latch bodies iface method = if iface == 3 then slice_get latch_bodies method else None
 
+-- The body that a class gives for a method of an interface, and None where it gives none.
 abbrev pub class_body : Class → ℕ → ℕ → Option (List Stmt)
 class_body c iface method = kind_body c.native c.bodies iface method
 
+-- The body that the class with a number gives for a method, and None where it gives none or there is no such class.
 abbrev pub body_at : Tables → ℕ → ℕ → ℕ → Option (List Stmt)
 body_at t class iface method = option_and_then (λ c. class_body c iface method) (class_at t class)
 

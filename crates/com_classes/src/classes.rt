@@ -214,6 +214,7 @@ impl Classes {
         }
     }
 
+    // Appends an interface that is not refused. The only error is want of memory.
     #[tactic(auto, using(crate::proofs::Keys::unrefused_interface))]
     fn put_interface(&mut self, interface: Interface) -> Result<u16, ClassError>
         requires { interface_refusal self.old interface ≡ None }
@@ -230,6 +231,8 @@ impl Classes {
         }
     }
 
+    // Why an interface is not taken: its IID is declared already, or the table is full. None
+    // where neither holds.
     fn interface_refusal(&self, interface: &Interface) -> Option<ClassError>
         ensures { result ≡ interface_refusal self.now interface.now }
     {
@@ -264,6 +267,7 @@ impl Classes {
         }
     }
 
+    // Appends a class that is not refused. The only error is want of memory.
     #[tactic(auto, using(crate::proofs::Keys::unrefused_class))]
     fn put_class(&mut self, class: Class) -> Result<u32, ClassError>
         requires { class_refusal self.old class ≡ None }
@@ -280,6 +284,8 @@ impl Classes {
         }
     }
 
+    // Why a class is not taken: its CLSID is declared already, or the table is full. None where
+    // neither holds.
     fn class_refusal(&self, class: &Class) -> Option<ClassError>
         ensures { result ≡ class_refusal self.now class.now }
     {
@@ -302,6 +308,8 @@ impl Classes {
         self.body_in(class, iface, method)
     }
 
+    // The body that a class gives for a method: for a class of its own bodies the first in its
+    // list, else the built-in one.
     fn body_in<'a>(&'a self, class: &'a Class, iface: u16, method: u16) -> Option<&'a Body>
         ensures { option_copied result ≡ class_body class.now iface method }
     {

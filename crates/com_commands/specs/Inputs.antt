@@ -18,6 +18,7 @@ abbrev pub answer_of : {T : Type 0} → Result T Fault → Result T ScenarioErro
 answer_of (Err fault) = Err (error_of fault)
 answer_of (Ok read) = Ok read
 
+-- A text that was read, as an input: it reads as what it spells, or it is faulty by its first fault.
 abbrev pub read_as : {T : Type 0} → Result T Fault → Input T
 read_as (Err fault) = input.Faulty fault
 read_as (Ok read) = input.Reads read

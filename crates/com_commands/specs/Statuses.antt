@@ -8,6 +8,7 @@ use Rattle.com_model.specs.declared.counts.Ended.TheVariants as ended
 use Rattle.com_commands.specs.declared.statuses.Status.{Status}
 use Rattle.com_commands.specs.declared.statuses.Status.TheVariants as status
 
+-- The number with which the program exits. 8 is that of no status.
 abbrev pub code_of : Status → ℕ
 code_of status.Done = 0
 code_of status.Usage = 1
@@ -51,6 +52,7 @@ end_concludes ended.Budget = tt
 abbrev pub read_fault_line : List ℕ
 read_fault_line = codes "read fault\n"
 
+-- The line of a text that is too long: at no line and no column, with the number of `Fault.LIMIT`.
 abbrev pub too_long_line : List ℕ
 too_long_line = codes "refused 0 0 12\n"
 

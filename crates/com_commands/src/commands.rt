@@ -111,6 +111,8 @@ pub fn respond<C: ReplyingCommand, S: Source, K: Sink>(
     reply_to::<C, S, K>(alloc, source, sink).code()
 }
 
+// Reads the input, and writes what the command answers, or the line that says why it does not.
+// Gives the status that goes with it.
 #[tactic(auto, using(crate::proofs::Answering::refused_causes, crate::proofs::Answering::said_causes, crate::proofs::Answering::same_causes, crate::proofs::Answering::said_no_memory))]
 fn reply_to<C: ReplyingCommand, S: Source, K: Sink>(
     alloc: Global,
@@ -180,6 +182,8 @@ pub fn perform<C: PlayingCommand, S: Source, K: Sink>(
     play_for::<C, S, K>(alloc, servants, source, sink).code()
 }
 
+// Reads the input, and lets the command play it, or writes the line that says why it does not.
+// Gives the status that goes with it.
 #[tactic(auto, using(crate::proofs::Answering::refused_causes, crate::proofs::Answering::refused_serves, crate::proofs::Answering::answered_causes, crate::proofs::Answering::answered_serves))]
 fn play_for<C: PlayingCommand, S: Source, K: Sink>(
     alloc: Global,

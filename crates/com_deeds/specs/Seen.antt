@@ -7,6 +7,8 @@ use Rattle.com_deeds.specs.declared.target.Target.{Target}
 use Rattle.com_model.specs.Deeds.{owned_by}
 use Rattle.com_model.specs.Sight.{Sight}
 
+-- What a lane finds of an object: whether its running apartment owns it, whether it is connected, the apartment that
+-- its making names, and its class.
 pub record SeesObject (v : Sight) (l o : ℕ) (t : Target) : Type 0 where
   pub owned : owned_by v l o ≡ t.is_owned
   pub connected : v.books.live o ≡ t.is_connected

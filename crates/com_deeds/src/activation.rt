@@ -52,6 +52,7 @@ fn show(number: Option<u32>, asked: Asked) -> Asked
     }
 }
 
+// An interface's number, which has 16 bits, as one of the 32 bits in which an entry shows it.
 fn wide(number: Option<u16>) -> Option<u32>
     ensures { result ≡ number }
 {
@@ -70,6 +71,7 @@ pub fn shown_interface(scenario: &Scenario, iface: Asked) -> Asked
     show(wide(interface_number(scenario, iface)), iface)
 }
 
+// The entry of a `create` that is refused with this answer: it names no object and no apartment.
 fn not_made(scenario: &Scenario, class: Asked, iface: Asked, hr: HResult) -> Deed
     requires { FitsNumber iface }
     ensures { result ≡ not_made scenario.now class iface hr }
@@ -180,6 +182,7 @@ pub fn object_in(held: Option<RefValue>) -> Option<u32>
     }
 }
 
+// The answer of a `query`: the first refusal that applies, as `query_deed` orders them, else S_OK.
 fn query_answer(
     scenario: &Scenario,
     held: Option<RefValue>,

@@ -27,6 +27,7 @@ pub fn init_deed(mode: Mode, home: Option<u32>, next_sta: u32) -> Deed
     Deed::Init { mode, home, hr }
 }
 
+// The home that a lane without home gets: the STA that is made next for `sta`, the MTA for `mta`.
 fn new_home(mode: Mode, next_sta: u32) -> u32
     ensures { (v : Sight) → v.next_sta ≡ next_sta → result ≡ new_home v mode }
 {
@@ -36,6 +37,7 @@ fn new_home(mode: Mode, next_sta: u32) -> u32
     }
 }
 
+// Whether a home is of this mode: an STA for `sta`, and no STA for `mta`.
 fn has_mode(mode: Mode, home: u32) -> bool
     ensures { result ≡ has_mode mode home }
 {

@@ -103,6 +103,7 @@ pub fn get_deed(number: i64, home: Option<u32>, kept: Cookie, target: Target) ->
     }
 }
 
+// The entry of a `get` that is refused: it gives no reference, and no proxy gains any.
 fn not_got(number: i64, hr: HResult) -> Deed
     ensures { result ≡ deed.Get number None 0 hr }
 {
@@ -127,6 +128,8 @@ pub fn revoke_deed(number: i64, home: Option<u32>, kept: Cookie) -> Deed
     Deed::Revoke { cookie: number, hr }
 }
 
+// The answer of a `revoke` in a lane with a home: E_INVALIDARG where the cookie is revoked or was
+// never given, else S_OK.
 fn revoke_answer(is_revoked: bool) -> HResult
     ensures { result ≡ (if is_revoked then E_INVALIDARG else S_OK) }
 {
@@ -196,6 +199,8 @@ pub fn disconnect_deed(held: Option<RefValue>, home: Option<u32>, target: Target
     }
 }
 
+// The answer of a `disconnect`: the first refusal that applies, as `disconnect_deed` orders them,
+// else S_OK.
 fn disconnect_answer(held: Option<RefValue>, home: Option<u32>, target: Target) -> HResult
     ensures { (v : Sight) (l : ℕ) → Sees v l held target → result ≡ disconnect_answer v l home held }
 {

@@ -16,6 +16,7 @@ use com_refs_books::Packet;
 use objref::{ObjRef, decode, encode};
 use std::alloc::Global;
 
+// The public references in a packet's bytes: those that a normal packet holds, and else 0.
 fn written_refs(mode: MarshalMode, refs: u32) -> u32
     ensures { result ≡ written_refs mode refs }
 {
@@ -25,6 +26,7 @@ fn written_refs(mode: MarshalMode, refs: u32) -> u32
     }
 }
 
+// The IID of the interface with this number, and the zero GUID where the scenario declares none.
 fn iid_of(scenario: &Scenario, iface: u16) -> Guid
     ensures { result ≡ iid_of (interface_at scenario.now.classes iface) }
 {
@@ -34,6 +36,8 @@ fn iid_of(scenario: &Scenario, iface: u16) -> Guid
     }
 }
 
+// The IPID in the bytes of a packet: the numbers of its object and interface, the low 16 bits of
+// the owner's, and its own.
 fn ipid(object: u32, iface: u16, owner: u32, packet: u32) -> Guid
     ensures { result ≡ ipid object iface owner packet }
 {

@@ -28,11 +28,12 @@ empty = record { objects = []; calls = []; lanes = [] }
 
 -- ---- objects
 
--- The number of the interface of a class, if that is a source. The table has a row for each class.
+-- The number that a row has; none where there is no row, or it has no number.
 abbrev pub flat : Option (Option ℕ) → Option ℕ
 flat None = None
 flat (Some x) = x
 
+-- The number of the interface of a class, if that is a source. The table has a row for each class.
 abbrev pub source_at : List (Option ℕ) → (class : ℕ) → Option ℕ
 source_at sources k = flat (row_at sources k)
 
@@ -228,5 +229,6 @@ events objects [] = []
 events objects (r ∷ rs) =
     if is_event objects r && r.has_left then delivery r ∷ events objects rs else events objects rs
 
+-- The events whose bodies left, by call number, each with the cookies of the sinks to which its Outs went.
 abbrev pub deliveries_in : Book → List Delivery
 deliveries_in b = events b.objects b.calls

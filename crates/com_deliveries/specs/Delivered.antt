@@ -1,4 +1,4 @@
--- The events of a history: which sinks got each of them.
+-- The events of a history: to which sinks the Outs of each went.
 use Rattle.std.specs.Prelude.{◌≡◌, ℕ, true, ◌<◌, List, [], ◌∷◌, ◌⊎◌, All, map, is_some}
 use Rattle.com_deliveries.specs.declared.Delivery.{Delivery}
 use Rattle.com_model.specs.declared.deeds.Entry.{Entry}

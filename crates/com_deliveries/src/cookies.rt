@@ -95,6 +95,7 @@ impl Cookies {
     }
 }
 
+// The last of these cookies, 0 where there is none.
 #[tactic(auto, using(crate::proofs::Removing::last_of_end, crate::proofs::Removing::last_of_none))]
 fn last_of(cookies: &[u64]) -> u64
     ensures { result ≡ last_in cookies.now }
@@ -105,6 +106,7 @@ fn last_of(cookies: &[u64]) -> u64
     }
 }
 
+// The first cookie above the one that was reached and at most the last one.
 fn next_of(cookies: &[u64], reached: u64, last: u64) -> Option<u64>
     ensures { result ≡ next_in reached last cookies.now }
 {

@@ -1,4 +1,4 @@
-//! The events of sources in a history: which sinks got each of them, by their cookies.
+//! The events of sources in a history: to which sinks the Outs of each went, by their cookies.
 //!
 //! A history is read once, from its first entry on, over tables by lane, by call and by object.
 #![tactic(auto)]

@@ -77,6 +77,7 @@ pub(crate) fn push(alloc: Global, lanes: &mut Vec<Open>, lane: u32, call: u32) -
     push_at(lanes, lane as usize, call)
 }
 
+// Adds lanes in which nothing stands open, until there is one of this number.
 #[tactic(auto, using(crate::proofs::Stacked::opened_further))]
 fn make_room(alloc: Global, lanes: &mut Vec<Open>, lane: u32) -> Result<(), Memory>
     ensures room { OnOk result (lane < length lanes.new.items) }
@@ -89,6 +90,7 @@ fn make_room(alloc: Global, lanes: &mut Vec<Open>, lane: u32) -> Result<(), Memo
     Ok(())
 }
 
+// Adds one lane in which nothing stands open.
 fn add_lane(alloc: Global, lanes: &mut Vec<Open>) -> Result<(), Memory>
     ensures { OnOk result (lanes.new.items ≡ lanes.old.items ++ ([] ∷ [])) }
 {
@@ -96,6 +98,7 @@ fn add_lane(alloc: Global, lanes: &mut Vec<Open>) -> Result<(), Memory>
     Ok(())
 }
 
+// Something more stands open in a lane that is there already.
 #[tactic(auto, using(crate::proofs::Stacked::opened_to))]
 fn push_at(lanes: &mut [Open], lane: usize, call: u32) -> Result<(), Memory>
     requires { lane < length lanes.old }
@@ -105,6 +108,7 @@ fn push_at(lanes: &mut [Open], lane: usize, call: u32) -> Result<(), Memory>
     Ok(())
 }
 
+// Puts a call on top of what stands open in one of the lanes.
 fn push_row(lanes: &mut [Open], lane: usize, call: u32) -> Result<(), Memory>
     requires { lane < length lanes.old }
     ensures { OnOk result (lanes.new ≡ slice_set lanes.old lane (call ∷ slice_index_or lanes.old lane [])) }
@@ -123,6 +127,7 @@ pub(crate) fn pop(lanes: &mut [Open], lane: u32)
     pop_row(lanes, lane as usize);
 }
 
+// Closes the innermost in one of the lanes.
 fn pop_row(lanes: &mut [Open], lane: usize)
     requires { lane < length lanes.old }
     ensures { lanes.new ≡ slice_set lanes.old lane (without_top (slice_index_or lanes.old lane [])) }

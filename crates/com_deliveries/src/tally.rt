@@ -36,7 +36,7 @@ pub(crate) struct Call {
     pub number: i64,
     /// Of an event, the last cookie when it began.
     pub last: u64,
-    /// Of an event, the cookies of the sinks that got it.
+    /// Of an event, the cookies of the sinks to which its Outs went.
     pub cookies: Cookies,
     /// Whether its body left.
     pub has_left: bool,
@@ -289,6 +289,8 @@ fn reach(calls: &mut [Call], call: u32, next: Option<u64>) -> Result<(), Memory>
     }
 }
 
+// Puts a cookie behind those that the event of a call has reached. Nothing changes where there is
+// no such call.
 fn reach_cookie(calls: &mut [Call], call: u32, cookie: u64) -> Result<(), Memory>
     ensures { OnOk result (calls.new ≡ with_row (got cookie) no_call call calls.old) }
 {
@@ -308,6 +310,8 @@ fn begin(calls: &mut [Call], objects: &[Source], call: u32, number: i64)
     begin_row(&mut calls[call as usize - 1], objects, number);
 }
 
+// What is kept of a call where its body begins: the first of its values as a number, and how many
+// sinks of its object were advised so far.
 fn begin_row(row: &mut Call, objects: &[Source], number: i64)
     ensures { row.new ≡ begun objects.now number row.old }
 {
@@ -340,6 +344,8 @@ fn change(
     }
 }
 
+// What the Leave of this call with S_OK does to the sinks of its object: `advise` adds one, and
+// `unadvise` takes one away.
 fn change_by(objects: &mut [Source], row: &Call, value: &Option<Value>) -> Result<(), Memory>
     ensures { OnOk result (objects.new ≡ changed_by objects.old (Some row.now) value.now) }
 {

@@ -17,6 +17,7 @@ fn same_name(a: &[u8], b: &[u8]) -> bool
     a.eq_ignore_ascii_case(b)
 }
 
+// The index of the first method of a name, when the case of ASCII letters is passed over.
 fn index_of_name(methods: &[Method], name: &[u8]) -> Option<usize>
     ensures value { result ≡ index_of_name methods.now name.now }
     ensures within { IfSome result (λ index. index < length methods.now) }
@@ -29,6 +30,7 @@ fn index_of_name(methods: &[Method], name: &[u8]) -> Option<usize>
     None
 }
 
+// The index of the method with a number. Members are numbered from 1, so that 0 is none's.
 fn index_of_number(methods: &[Method], number: u32) -> Option<usize>
     ensures value { result ≡ index_of_number methods.now number }
     ensures within { IfSome result (λ index. index < length methods.now) }
@@ -44,6 +46,7 @@ fn index_of_number(methods: &[Method], number: u32) -> Option<usize>
     }
 }
 
+// The index of the method that a member says by name or by number. None where there is none.
 fn index_of(methods: &[Method], member: &Member) -> Option<usize>
     ensures value { result ≡ index_of methods.now member.now }
     ensures within { IfSome result (λ index. index < length methods.now) }

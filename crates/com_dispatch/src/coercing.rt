@@ -12,24 +12,28 @@ use com_read_operands::{guid_of, signed_of};
 use itoa::Buffer;
 use std::alloc::Global;
 
+// A truth value as a number: true is 1, and false is 0.
 fn as_number(truth: bool) -> i64
     ensures { result ≡ as_number truth }
 {
     if truth { 1 } else { 0 }
 }
 
+// A number as a truth value: every number but 0 is true.
 fn is_not_zero(number: i64) -> bool
     ensures { result ≡ is_not_zero number }
 {
     number != 0
 }
 
+// A truth value as a text: its word in small letters.
 fn word_of(truth: bool) -> &'static [u8]
     ensures { result.now ≡ word_of truth }
 {
     if truth { b"true" } else { b"false" }
 }
 
+// A text as a truth value. No other text than `true` and `false` in small letters is one.
 fn truth_of(text: &[u8]) -> Option<bool>
     ensures { result ≡ truth_of text.now }
 {
@@ -42,6 +46,8 @@ fn truth_of(text: &[u8]) -> Option<bool>
     }
 }
 
+// The number that a value becomes: a number, a truth value, or a text that spells a number of
+// 64 bits. Any other becomes none.
 fn to_int(value: &Value) -> Option<i64>
     ensures { result ≡ to_int value.now }
 {
@@ -53,6 +59,8 @@ fn to_int(value: &Value) -> Option<i64>
     }
 }
 
+// The truth value that a value becomes: a number, a truth value, or one of the two words. Any other
+// becomes none.
 fn to_bool(value: &Value) -> Option<bool>
     ensures { result ≡ to_bool value.now }
 {
@@ -64,6 +72,7 @@ fn to_bool(value: &Value) -> Option<bool>
     }
 }
 
+// A number in decimal digits, with `-` where it is below 0. The only error is want of memory.
 fn decimal_text(alloc: Global, number: i64) -> Result<ByteList, Memory>
     ensures { IfOk result (λ text. to_text (values.Int number) ≡ Some text) }
 {
@@ -71,6 +80,8 @@ fn decimal_text(alloc: Global, number: i64) -> Result<ByteList, Memory>
     ByteList::from_slice(alloc, digits.format(number).as_bytes())
 }
 
+// The text that a value becomes: a number, a truth value or a text. Any other becomes none.
+// The only error is want of memory.
 fn to_text(alloc: Global, value: &Value) -> Result<Option<ByteList>, Memory>
     ensures { IfOk result (λ text. text ≡ to_text value.now) }
 {
@@ -82,6 +93,7 @@ fn to_text(alloc: Global, value: &Value) -> Result<Option<ByteList>, Memory>
     }
 }
 
+// The bytes that a value becomes: bytes alone do. The only error is want of memory.
 fn to_bytes(value: &Value) -> Result<Option<ByteList>, Memory>
     ensures { IfOk result (λ bytes. bytes ≡ to_bytes value.now) }
 {
@@ -91,6 +103,8 @@ fn to_bytes(value: &Value) -> Result<Option<ByteList>, Memory>
     }
 }
 
+// The GUID that a value becomes: a GUID, or a text that spells one in braces. Any other becomes
+// none.
 fn to_guid(value: &Value) -> Option<Guid>
     ensures { result ≡ to_guid value.now }
 {

@@ -35,36 +35,46 @@ gap_row n b = if nat_le n LIMIT then [] else front_of_section b ++ gap_text (n -
 unfoldable pub last_back : (rows : ℕ) → (cycle : List ℕ) → State → List ℕ
 last_back m cycle b = if m == 0 then [] else back_of_section (row_at m) cycle b
 
+-- What the drawing has behind so many entries: the row that counts those without one, a row for each lane that waits,
+-- and the end of the last section.
 unfoldable pub last_rows : (entries : ℕ) → (cycle : List ℕ) → List Wait → State → List ℕ
 last_rows n cycle ws b =
     gap_row n b ++ reason_rows (rows_of n + 1) cycle b ws ++ last_back (rows_of n + length ws) cycle b
 
 -- ---- what the whole was
 
+-- The rules that mark the labels of these events' calls.
 abbrev pub event_styles : List Delivery → List ℕ
 event_styles [] = []
 event_styles (d ∷ ds) = event_style_text d.call ++ event_styles ds
 
+-- An item of the list: why a lane waits.
 unfoldable pub reason_item : Wait → List ℕ
 reason_item w = item_front_text ++ reason_story w.lane w.why ++ item_end_text
 
+-- An item for each lane that waits.
 abbrev pub reason_items : List Wait → List ℕ
 reason_items [] = []
 reason_items (w ∷ ws) = reason_item w ++ reason_items ws
 
+-- The item that names the lanes of the cycle; no item where there is no cycle.
 unfoldable pub ring_item : (cycle : List ℕ) → List ℕ
 ring_item cycle = if length cycle == 0 then [] else item_front_text ++ ring_text cycle ++ item_end_text
 
+-- An item of the list: the call of an event, and the sinks that got it, by their cookies.
 unfoldable pub event_item : Delivery → List ℕ
 event_item d = item_front_text ++ event_text d.call d.cookies ++ item_end_text
 
+-- An item for each event.
 abbrev pub event_items : List Delivery → List ℕ
 event_items [] = []
 event_items (d ∷ ds) = event_item d ++ event_items ds
 
+-- Why each lane waits, then the cycle, then each event.
 unfoldable pub all_items : List Wait → (cycle : List ℕ) → List Delivery → List ℕ
 all_items ws cycle ds = reason_items ws ++ ring_item cycle ++ event_items ds
 
+-- The list of these items, from its beginning to its end.
 unfoldable pub items_text : List Wait → (cycle : List ℕ) → List Delivery → List ℕ
 items_text ws cycle ds = list_front_text ++ all_items ws cycle ds ++ list_end_text
 
@@ -72,12 +82,15 @@ items_text ws cycle ds = list_front_text ++ all_items ws cycle ds ++ list_end_te
 unfoldable pub list_text : List Wait → (cycle : List ℕ) → List Delivery → List ℕ
 list_text ws cycle ds = if length ws == 0 && length ds == 0 then [] else items_text ws cycle ds
 
+-- The rules that are known only at the end: the second widths, and the marks of events.
 unfoldable pub last_styles : State → List Delivery → List ℕ
 last_styles b ds = widths_text b ++ event_styles ds
 
+-- The end of the drawing, with these rules behind it.
 unfoldable pub styles_text : State → List Delivery → List ℕ
 styles_text b ds = drawing_end_text ++ last_styles b ds ++ styles_end_text
 
+-- The report in the page, folded up under the word `Report`.
 unfoldable pub report_part : List Counts → (entries clock : ℕ) → Ended → List ℕ
 report_part counts n clock ended = report_front_text ++ report_text counts n clock ended ++ report_end_text
 
@@ -86,9 +99,11 @@ unfoldable pub told_text : (entries : ℕ) → Beside → List ℕ
 told_text n x =
     summary_text x.ended n x.clock ++ list_text (waits_in x.waits) (cycle_in x.waits) x.events
 
+-- What is said of the whole, and the report behind it.
 unfoldable pub said_text : (entries : ℕ) → Beside → List ℕ
 said_text n x = told_text n x ++ report_part x.counts n x.clock x.ended
 
+-- What stands behind the drawing: the rules that are known at the end, what is said of the whole, and the page's tail.
 unfoldable pub footer_text : (entries : ℕ) → State → Beside → List ℕ
 footer_text n b x = styles_text b x.events ++ said_text n x ++ tail_text
 

@@ -97,6 +97,7 @@ entry_at s n b v e =
     else if n == LIMIT + 1 then back_of_section (row_at LIMIT) [] b
     else []
 
+-- What the page has of the next entry, drawn on the picture before it.
 unfoldable pub entry_text : Scenario → Picture → Entry → List ℕ
 entry_text s p e = entry_at s (p.entries + 1) p.board (seen p.board e) e
 
@@ -107,6 +108,8 @@ abbrev pub labelled : (level length : ℕ) → Entry → State → State
 labelled d n e b =
     if has_label e.deed then with_lanes (with_lane (widened (label_width d n)) e.lane b.lanes) b else b
 
+-- The picture after the next entry: the board with what it opens and closes, its lane wide enough for its label, and
+-- one entry more.
 unfoldable pub after : Scenario → Picture → Entry → Picture
 after s p e = record {
   board =

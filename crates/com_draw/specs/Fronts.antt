@@ -23,6 +23,7 @@ names_of k l (suc n) = lane_name_text l k ++ names_of k (l + 1) n
 unfoldable pub front_widths : (count : ℕ) → List ℕ
 front_widths m = first_widths 1 m ++ main_width_text (m * FULL)
 
+-- The head of the page, with the first widths of so many columns, up to where the names of the lanes begin.
 unfoldable pub front_styles : (count : ℕ) → List ℕ
 front_styles m = head_text ++ front_widths m ++ body_text
 
@@ -31,8 +32,10 @@ unfoldable pub lane_names : (threads pool : ℕ) → List ℕ
 lane_names t p =
     names_of lane.Thread 1 t ++ lane_name_text (t + 1) lane.Host ++ names_of lane.Pool (t + 2) p
 
+-- The names of all columns: those of so many threads, of the host, of so many pool lanes, and of the objects.
 unfoldable pub front_names : (threads pool : ℕ) → List ℕ
 front_names t p = lane_names t p ++ objects_name_text (t + 1 + p + 1)
 
+-- What stands before the first row of a scenario's page.
 unfoldable pub front : Scenario → List ℕ
 front s = front_styles (threads s + 1 + s.pool + 1) ++ front_names (threads s) s.pool

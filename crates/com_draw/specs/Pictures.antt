@@ -4,6 +4,7 @@ use Rattle.com_model.specs.declared.scenario.Scenario.{Scenario}
 use Rattle.com_model.specs.Tables.{threads}
 use Rattle.com_draw_state.specs.Board.{State, first_board}
 
+-- How far a picture is drawn: how its lanes and tracks stand, and how many entries there were.
 pub record Picture : Type 0 where
   -- the lanes and the tracks
   pub board : State

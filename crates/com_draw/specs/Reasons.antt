@@ -23,20 +23,24 @@ abbrev pub waits_in : Option Waits → List Wait
 waits_in None = []
 waits_in (Some w) = w.waits
 
+-- The lanes of the cycle, from its least one on; none where the history is not stuck or no lane waits for another.
 abbrev pub cycle_in : Option Waits → List ℕ
 cycle_in None = []
 cycle_in (Some w) = w.cycle
 
+-- Why a lane waits, as a sentence: for a message, for the lane that runs its call, or for a free lane of the pool.
 unfoldable pub reason_story : (lane : ℕ) → Why → List ℕ
 reason_story l why.Message = message_story l
 reason_story l (why.Body c m) = body_story l m c
 reason_story l (why.Pool c m) = pool_story l c
 
+-- Why a lane waits, in the few words of its label.
 unfoldable pub reason_words : Why → List ℕ
 reason_words why.Message = message_label
 reason_words (why.Body c m) = body_label m
 reason_words (why.Pool c m) = pool_label
 
+-- The label of a reason is plain, red where it is bad, and no link leads to it.
 abbrev pub reason_look : (is_bad : Bool) → Look
 reason_look is_bad = record { class = class.Plain; is_bad = is_bad; ident = None }
 
@@ -45,9 +49,11 @@ abbrev pub ring_kind : Bool → ArrowKind
 ring_kind true = kind.Ring
 ring_kind false = kind.Word
 
+-- How much stands open in a lane.
 abbrev pub depth_in : State → (lane : ℕ) → ℕ
 depth_in b l = depth_of (lane_at b.lanes l)
 
+-- The arrow between a lane that waits and the one for which it waits, each at its depth.
 abbrev pub arrow_to : (cycle : List ℕ) → State → (lane to : ℕ) → List ℕ
 arrow_to cycle b l m =
     arrow_text (record {
@@ -58,15 +64,18 @@ arrow_to cycle b l m =
       level = depth_in b l;
     })
 
+-- The arrow of a lane that waits for another lane; none where it waits for a message.
 unfoldable pub reason_arrow : (cycle : List ℕ) → State → (lane : ℕ) → Why → List ℕ
 reason_arrow cycle b l why.Message = []
 reason_arrow cycle b l (why.Body c m) = arrow_to cycle b l m
 reason_arrow cycle b l (why.Pool c m) = arrow_to cycle b l m
 
+-- The front of a reason's row, red where its lane is in the cycle, and the sentence.
 unfoldable pub reason_lead : (cycle : List ℕ) → Wait → List ℕ
 reason_lead cycle w =
     reason_front_text (is_member w.lane cycle) ++ reason_story w.lane w.why ++ row_middle_text
 
+-- The label of a reason, at the depth of its lane, red where the lane is in the cycle.
 unfoldable pub reason_label : (cycle : List ℕ) → State → Wait → List ℕ
 reason_label cycle b w =
     label_text w.lane (depth_in b w.lane) (reason_look (is_member w.lane cycle)) (reason_words w.why)
@@ -90,6 +99,7 @@ unfoldable pub reason_labelled : Wait → State → State
 reason_labelled w b =
     with_lanes (with_lane (widened (label_width (depth_in b w.lane) (length (reason_words w.why)))) w.lane b.lanes) b
 
+-- The lanes are wide enough for the labels of all these.
 abbrev pub all_labelled : List Wait → State → State
 all_labelled [] b = b
 all_labelled (w ∷ ws) b = all_labelled ws (reason_labelled w b)

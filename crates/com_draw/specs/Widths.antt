@@ -10,14 +10,16 @@ use Rattle.com_draw_shapes.specs.Boxes.{objects_lane}
 abbrev pub width_of : Lane → ℕ
 width_of row = if row.has_acted then max row.width LEAST else IDLE
 
--- The widths of lanes, of which the first has this number and begins there.
+-- The width of the lane with this number, which begins at this pixel.
 unfoldable pub lane_rule : (lane from : ℕ) → Lane → List ℕ
 lane_rule l x row = lane_widths_text l x (width_of row)
 
+-- The widths of lanes side by side, of which the first has this number and begins at this pixel.
 abbrev pub lane_rules : (lane from : ℕ) → List Lane → List ℕ
 lane_rules l x [] = []
 lane_rules l x (row ∷ rows) = lane_rule l x row ++ lane_rules (l + 1) (x + width_of row) rows
 
+-- How many pixels wide the lanes are together.
 abbrev pub total_width : List Lane → ℕ
 total_width [] = 0
 total_width (row ∷ rows) = width_of row + total_width rows
@@ -26,6 +28,7 @@ total_width (row ∷ rows) = width_of row + total_width rows
 abbrev pub objects_width : State → ℕ
 objects_width b = length b.tracks * TRACK_WIDTH + BESIDE
 
+-- The objects' lane begins at this pixel and is so wide; with it the widths of the drawing and of the printed page.
 unfoldable pub objects_rules : (lane from width : ℕ) → List ℕ
 objects_rules m x w =
     lane_widths_text m x w ++ main_width_text (x + w) ++ page_size_text (x + w + STORY_WIDTH)

@@ -103,6 +103,7 @@ fn push_event_styles(out: &mut ByteList, events: &[Delivery]) -> Result<(), Memo
     Ok(())
 }
 
+// Appends an item of the list: why a lane waits.
 #[tactic(auto, unfolding(crate::specs::Ends::reason_item))]
 fn push_reason_item(out: &mut ByteList, wait: Wait) -> Result<(), Memory>
     ensures { OnOk result (out.new ≡ out.old ++ reason_item wait) }
@@ -112,6 +113,7 @@ fn push_reason_item(out: &mut ByteList, wait: Wait) -> Result<(), Memory>
     push_item_end(out)
 }
 
+// Appends an item for each lane that waits.
 fn push_reason_items(out: &mut ByteList, waits: &[Wait]) -> Result<(), Memory>
     ensures { OnOk result (out.new ≡ out.old ++ reason_items waits.now) }
 {
@@ -123,6 +125,7 @@ fn push_reason_items(out: &mut ByteList, waits: &[Wait]) -> Result<(), Memory>
     Ok(())
 }
 
+// Appends the item that names the lanes of the cycle, where there is one.
 #[tactic(auto, unfolding(crate::specs::Ends::ring_item))]
 fn push_ring_item(out: &mut ByteList, cycle: &[u32]) -> Result<(), Memory>
     ensures { OnOk result (out.new ≡ out.old ++ ring_item cycle.now) }
@@ -135,6 +138,7 @@ fn push_ring_item(out: &mut ByteList, cycle: &[u32]) -> Result<(), Memory>
     push_item_end(out)
 }
 
+// Appends an item of the list: the call of an event, and the sinks that got it.
 #[tactic(auto, unfolding(crate::specs::Ends::event_item))]
 fn push_event_item(out: &mut ByteList, event: &Delivery) -> Result<(), Memory>
     ensures { OnOk result (out.new ≡ out.old ++ event_item event.now) }
@@ -144,6 +148,7 @@ fn push_event_item(out: &mut ByteList, event: &Delivery) -> Result<(), Memory>
     push_item_end(out)
 }
 
+// Appends an item for each event.
 fn push_event_items(out: &mut ByteList, events: &[Delivery]) -> Result<(), Memory>
     ensures { OnOk result (out.new ≡ out.old ++ event_items events.now) }
 {
@@ -155,6 +160,7 @@ fn push_event_items(out: &mut ByteList, events: &[Delivery]) -> Result<(), Memor
     Ok(())
 }
 
+// Appends why each lane waits, then the cycle, then each event.
 #[tactic(auto, unfolding(crate::specs::Ends::all_items))]
 fn push_all_items(
     out: &mut ByteList,
@@ -169,6 +175,7 @@ fn push_all_items(
     push_event_items(out, events)
 }
 
+// Appends the list of these items, from its beginning to its end.
 #[tactic(auto, unfolding(crate::specs::Ends::items_text))]
 fn push_items(
     out: &mut ByteList,
@@ -199,6 +206,7 @@ fn push_list(
     push_items(out, waits, cycle, events)
 }
 
+// Appends the rules that are known only at the end: the second widths, and the marks of events.
 #[tactic(auto, unfolding(crate::specs::Ends::last_styles))]
 fn push_last_styles(out: &mut ByteList, board: &Board, events: &[Delivery]) -> Result<(), Memory>
     ensures { OnOk result (out.new ≡ out.old ++ last_styles board.now events.now) }
@@ -207,6 +215,7 @@ fn push_last_styles(out: &mut ByteList, board: &Board, events: &[Delivery]) -> R
     push_event_styles(out, events)
 }
 
+// Appends the end of the drawing, with the rules that are known only then behind it.
 #[tactic(auto, unfolding(crate::specs::Ends::styles_text))]
 fn push_styles(out: &mut ByteList, board: &Board, events: &[Delivery]) -> Result<(), Memory>
     ensures { OnOk result (out.new ≡ out.old ++ styles_text board.now events.now) }
@@ -216,6 +225,7 @@ fn push_styles(out: &mut ByteList, board: &Board, events: &[Delivery]) -> Result
     push_styles_end(out)
 }
 
+// Appends the report, folded up under the word `Report`.
 #[tactic(auto, unfolding(crate::specs::Ends::report_part))]
 fn push_report_part(
     alloc: Global,
@@ -246,6 +256,7 @@ fn push_told(out: &mut ByteList, entries: u64, beside: &Beside) -> Result<(), Me
     )
 }
 
+// Appends what is said of the whole, and the report behind it.
 #[tactic(auto, unfolding(crate::specs::Ends::said_text))]
 fn push_said(alloc: Global, out: &mut ByteList, entries: u64, beside: &Beside) -> Result<(), Memory>
     ensures { OnOk result (out.new ≡ out.old ++ said_text entries beside.now) }

@@ -31,6 +31,7 @@ pub struct Seen {
     pub level: u32,
 }
 
+// Who waits for the entry's call, where it has one.
 fn waiter_of(board: &Board, call: Option<u32>) -> Option<Waiter>
     ensures { result ≡ waiter_of board.now call }
 {
@@ -40,6 +41,7 @@ fn waiter_of(board: &Board, call: Option<u32>) -> Option<Waiter>
     }
 }
 
+// The lane that waits, and the method that its call names.
 fn caller_of(waiter: Option<Waiter>) -> Option<Caller>
     ensures { result ≡ caller_of waiter }
 {

@@ -41,6 +41,7 @@ fn push_names(out: &mut ByteList, kind: LaneKind, first: u32, count: u32) -> Res
     Ok(())
 }
 
+// Appends the first widths of so many columns, and the width of all of them.
 #[tactic(auto, unfolding(crate::specs::Fronts::front_widths))]
 fn push_front_widths(out: &mut ByteList, count: u32) -> Result<(), Memory>
     requires { count ≤ 66 }
@@ -61,6 +62,7 @@ pub(crate) fn push_front_styles(out: &mut ByteList, count: u32) -> Result<(), Me
     push_body(out)
 }
 
+// Appends the names of the threads' lanes, of the host's, and of the pool's.
 #[tactic(auto, unfolding(crate::specs::Fronts::lane_names))]
 fn push_lane_names(out: &mut ByteList, threads: u32, pool: u32) -> Result<(), Memory>
     requires { threads + pool < 64 }

@@ -28,6 +28,7 @@ pub(crate) fn push_story_of(out: &mut ByteList, lane: u32, why: Why) -> Result<(
     }
 }
 
+// Appends why a lane waits, in the few words of its label.
 #[tactic(auto, unfolding(crate::specs::Reasons::reason_words))]
 fn push_words(out: &mut ByteList, why: Why) -> Result<(), Memory>
     ensures { OnOk result (out.new ≡ out.old ++ reason_words why) }
@@ -48,6 +49,7 @@ fn words_of(alloc: Global, why: Why) -> Result<ByteList, Memory>
     Ok(words)
 }
 
+// The kind of the arrow of a lane that waits: a part of the ring, or like that of a word.
 fn ring_kind(is_ring: bool) -> ArrowKind
     ensures { result ≡ ring_kind is_ring }
 {
@@ -82,6 +84,7 @@ fn push_arrow_to(
     )
 }
 
+// Appends the arrow of a lane that waits for another one; none where it waits for a message.
 #[tactic(auto, unfolding(crate::specs::Reasons::reason_arrow))]
 fn push_arrow_of(
     out: &mut ByteList,
@@ -99,6 +102,7 @@ fn push_arrow_of(
     }
 }
 
+// Appends the front of a reason's row, red where its lane is in the cycle, and the sentence.
 #[tactic(auto, unfolding(crate::specs::Reasons::reason_lead))]
 fn push_lead(out: &mut ByteList, cycle: &[u32], wait: Wait) -> Result<(), Memory>
     ensures { OnOk result (out.new ≡ out.old ++ reason_lead cycle.now wait) }
@@ -207,6 +211,7 @@ pub(crate) fn push_rows(
     Ok(())
 }
 
+// The lane has to be wide enough for the label of this reason.
 #[tactic(auto, unfolding(crate::specs::Reasons::reason_labelled))]
 fn widen(alloc: Global, board: &mut Board, wait: Wait) -> Result<(), Memory>
     ensures { OnOk result (board.new ≡ reason_labelled wait board.old) }

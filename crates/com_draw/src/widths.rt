@@ -22,6 +22,7 @@ fn width_of(lane: &Lane) -> u32
     (lane.width as u32).max(LEAST)
 }
 
+// Appends the width of a lane, which has this number and begins at this pixel.
 #[tactic(auto, unfolding(crate::specs::Widths::lane_rule))]
 fn push_rule(out: &mut ByteList, number: u32, from: u32, lane: &Lane) -> Result<(), Memory>
     ensures { OnOk result (out.new ≡ out.old ++ lane_rule number from lane.now) }
@@ -48,6 +49,8 @@ fn push_rules(out: &mut ByteList, lanes: &[Lane]) -> Result<u32, Memory>
     Ok(from)
 }
 
+// Appends the width of the objects' lane, which begins at this pixel, and the widths of the whole
+// drawing and of the printed page.
 #[tactic(auto, unfolding(crate::specs::Widths::objects_rules))]
 fn push_objects_rules(out: &mut ByteList, lane: u32, from: u32, width: u32) -> Result<(), Memory>
     requires from { from ≤ 4194240 }

@@ -137,10 +137,11 @@ refuse_label v c hr = word_and_number (codes "refuses c") c ++ hresult_behind v 
 abbrev pub enter_label : Tables → Option Caller → (object : ℕ) → List Value → List ℕ
 enter_label t x o vs = word_and_number (codes "o") o ++ codes "." ++ called_words t x ++ passed_text vs
 
--- An HRESULT behind a space, where it is not that of success.
+-- An HRESULT behind a space.
 abbrev pub spaced_hresult : (version : ℕ) → HResult → List ℕ
 spaced_hresult v hr = codes " " ++ hresult_text v hr
 
+-- An HRESULT behind a space, where it is not that of success.
 abbrev pub hresult_word : (version : ℕ) → HResult → List ℕ
 hresult_word v hr = if hr.0 == 0 then [] else spaced_hresult v hr
 

@@ -79,5 +79,6 @@ abbrev pub label_ident : Deed → Option ℕ
 label_ident (deed.Out call object iface method r cause bytes) = Some call
 label_ident _ = None
 
+-- How the label of an entry looks: its class, whether it is bad, and the call by which it is found.
 abbrev pub look : Deed → Look
 look d = record { class = label_class d; is_bad = is_bad d; ident = label_ident d }

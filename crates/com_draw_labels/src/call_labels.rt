@@ -16,6 +16,7 @@ use com_draw_names::{
 use com_draw_words::push_word_and_number;
 use com_filter::Verdict;
 
+// Appends the message filter that an STA has from now on, or that it has none.
 fn push_filter_named(out: &mut ByteList, filter: Option<u32>) -> Result<(), Memory>
     ensures { OnOk result (out.new ≡ out.old ++ filter_named filter) }
 {
@@ -25,6 +26,7 @@ fn push_filter_named(out: &mut ByteList, filter: Option<u32>) -> Result<(), Memo
     }
 }
 
+// Appends which message filter was set, or the HRESULT where none was set.
 pub(crate) fn push_filter(
     out: &mut ByteList,
     version: u8,
@@ -39,6 +41,7 @@ pub(crate) fn push_filter(
     push_failed(out, b"filter", version, hr)
 }
 
+// Appends a word and the lane to which it was posted.
 fn push_sent(out: &mut ByteList, to: i64, word: i64) -> Result<(), Memory>
     ensures { OnOk result (out.new ≡ out.old ++ sent_label to word) }
 {
@@ -46,6 +49,7 @@ fn push_sent(out: &mut ByteList, to: i64, word: i64) -> Result<(), Memory>
     push_words_signed(out, b" to L", to)
 }
 
+// Appends which word was posted to which lane, or the HRESULT where the post failed.
 pub(crate) fn push_post(
     out: &mut ByteList,
     version: u8,
@@ -61,6 +65,7 @@ pub(crate) fn push_post(
     push_sent(out, to, word)
 }
 
+// Appends which lane's pump was asked to end, or the HRESULT where that failed.
 pub(crate) fn push_quit(out: &mut ByteList, version: u8, to: i64, hr: HResult) -> Result<(), Memory>
     ensures { OnOk result (out.new ≡ out.old ++ quit_label version to hr) }
 {
@@ -70,6 +75,7 @@ pub(crate) fn push_quit(out: &mut ByteList, version: u8, to: i64, hr: HResult) -
     push_words_signed(out, b"quit to L", to)
 }
 
+// Appends that a pump begins, and its bound where it has one.
 pub(crate) fn push_pump(out: &mut ByteList, bound: u32) -> Result<(), Memory>
     ensures { OnOk result (out.new ≡ out.old ++ pump_label bound) }
 {
@@ -79,6 +85,7 @@ pub(crate) fn push_pump(out: &mut ByteList, bound: u32) -> Result<(), Memory>
     push_word_and_number(out, b"pumps for ", bound)
 }
 
+// Appends which method of which object is called, or of null.
 pub(crate) fn push_out(
     out: &mut ByteList,
     classes: &Classes,
@@ -94,6 +101,7 @@ pub(crate) fn push_out(
     push_method(out, classes, iface, method)
 }
 
+// Appends what a message filter does with a call.
 pub(crate) fn push_verdict(out: &mut ByteList, verdict: Verdict, call: u32) -> Result<(), Memory>
     ensures { OnOk result (out.new ≡ out.old ++ verdict_label verdict call) }
 {
@@ -101,6 +109,7 @@ pub(crate) fn push_verdict(out: &mut ByteList, verdict: Verdict, call: u32) -> R
     push_word_and_number(out, b" c", call)
 }
 
+// Appends which call is refused, and with which HRESULT.
 pub(crate) fn push_refuse(
     out: &mut ByteList,
     version: u8,
@@ -113,6 +122,7 @@ pub(crate) fn push_refuse(
     push_hresult_behind(out, version, hr)
 }
 
+// Appends the object, the method and the values of a body that begins.
 pub(crate) fn push_enter(
     out: &mut ByteList,
     classes: &Classes,
@@ -128,6 +138,7 @@ pub(crate) fn push_enter(
     push_passed(out, values)
 }
 
+// Appends an HRESULT behind a space, whatever it is.
 fn push_spaced_hresult(out: &mut ByteList, version: u8, hr: HResult) -> Result<(), Memory>
     ensures { OnOk result (out.new ≡ out.old ++ spaced_hresult version hr) }
 {
@@ -160,6 +171,7 @@ pub(crate) fn push_gave(
     push_given(out, value)
 }
 
+// Appends what a call gave its caller. S_OK without result is just its answer.
 pub(crate) fn push_back(
     out: &mut ByteList,
     version: u8,
@@ -177,6 +189,7 @@ pub(crate) fn push_back(
     push_gave(out, b"got", version, hr, value)
 }
 
+// Appends after how many milliseconds a call is sent again.
 fn push_later_label(out: &mut ByteList, call: u32, answer: i64) -> Result<(), Memory>
     ensures { OnOk result (out.new ≡ out.old ++ later_label call answer) }
 {
@@ -184,6 +197,8 @@ fn push_later_label(out: &mut ByteList, call: u32, answer: i64) -> Result<(), Me
     push_later(out, answer)
 }
 
+// Appends what the caller's filter says of a call that was not taken: below 0 the call is given
+// up, below 100 it goes again at once, and else so many milliseconds later.
 pub(crate) fn push_retry(out: &mut ByteList, call: u32, answer: i64) -> Result<(), Memory>
     ensures { OnOk result (out.new ≡ out.old ++ retry_label call answer) }
 {
@@ -196,6 +211,8 @@ pub(crate) fn push_retry(out: &mut ByteList, call: u32, answer: i64) -> Result<(
     push_later_label(out, call, answer)
 }
 
+// Appends what the filter of a waiting caller says of a word: 0 cancels the call, 1 leaves the
+// word where it is, and any other answer takes it away.
 pub(crate) fn push_pending(
     out: &mut ByteList,
     call: u32,

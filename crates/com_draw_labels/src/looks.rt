@@ -8,6 +8,7 @@ use com_draw_names::has_failed;
 use com_draw_words::{LabelClass, Look, Mark, hue_of};
 use com_model::{Deed, Route};
 
+// Whether a call was refused at its issue.
 fn is_refused(route: Route) -> bool
     ensures { result ≡ is_refused route }
 {
@@ -86,6 +87,8 @@ pub fn mark_of(deed: &Deed) -> Mark
     Mark::Plain
 }
 
+// A label is about a new object, in the hue of its apartment, where one was made, and else about
+// nothing.
 fn new_class(apartment: Option<u32>, hr: HResult) -> LabelClass
     ensures { result ≡ new_class apartment hr }
 {
@@ -98,6 +101,7 @@ fn new_class(apartment: Option<u32>, hr: HResult) -> LabelClass
     LabelClass::New(hue_of(apartment))
 }
 
+// What the label of an entry is about: a new object, the end of a lane, or nothing of these.
 fn label_class(deed: &Deed) -> LabelClass
     ensures { result ≡ label_class deed.now }
 {
@@ -108,6 +112,7 @@ fn label_class(deed: &Deed) -> LabelClass
     }
 }
 
+// The call by which a label is found: only an Out has one.
 fn label_ident(deed: &Deed) -> Option<u32>
     ensures { result ≡ label_ident deed.now }
 {

@@ -16,6 +16,8 @@ use com_draw_names::{
 };
 use com_draw_words::push_word_and_number;
 
+// Appends which apartment a lane enters, or that it enters its home once more, or the HRESULT
+// where it is refused.
 pub(crate) fn push_init(
     out: &mut ByteList,
     version: u8,
@@ -34,6 +36,8 @@ pub(crate) fn push_init(
     push_words_place(out, b"enters ", home)
 }
 
+// Appends that a lane leaves its home, or that it takes one of several initialisations back, or
+// that it has no home to leave.
 pub(crate) fn push_uninit(out: &mut ByteList, home: Option<u32>, count: u32) -> Result<(), Memory>
     ensures { OnOk result (out.new ≡ out.old ++ uninit_label home count) }
 {
@@ -46,6 +50,7 @@ pub(crate) fn push_uninit(out: &mut ByteList, home: Option<u32>, count: u32) -> 
     out.push_all(b"leaves once")
 }
 
+// Appends the class of which no object was made, and the HRESULT.
 fn push_unmade(
     out: &mut ByteList,
     classes: &Classes,
@@ -60,6 +65,7 @@ fn push_unmade(
     push_hresult_behind(out, version, hr)
 }
 
+// Appends a new object, its class and its apartment.
 fn push_made(out: &mut ByteList, classes: &Classes, born: Born, class: &Asked) -> Result<(), Memory>
     ensures { OnOk result (out.new ≡ out.old ++ made_label classes.now born class.now) }
 {
@@ -69,6 +75,7 @@ fn push_made(out: &mut ByteList, classes: &Classes, born: Born, class: &Asked) -
     push_words_named(out, b" in ", b"a", born.apartment)
 }
 
+// Appends which object was made of a class and where, or the HRESULT where none was made.
 pub(crate) fn push_create(
     out: &mut ByteList,
     classes: &Classes,
@@ -85,6 +92,7 @@ pub(crate) fn push_create(
     push_made(out, classes, born, class)
 }
 
+// Appends which object was asked for which interface, with the HRESULT where it has failed.
 pub(crate) fn push_query(
     out: &mut ByteList,
     classes: &Classes,
@@ -101,6 +109,7 @@ pub(crate) fn push_query(
     push_hresult_if(out, version, hr)
 }
 
+// Appends the object, or null, of a reference that is put at one more place.
 pub(crate) fn push_copy(out: &mut ByteList, held: Option<RefValue>) -> Result<(), Memory>
     ensures { OnOk result (out.new ≡ out.old ++ copy_label held) }
 {
@@ -110,6 +119,7 @@ pub(crate) fn push_copy(out: &mut ByteList, held: Option<RefValue>) -> Result<()
     }
 }
 
+// Appends the object, or null, of a reference that is given up.
 pub(crate) fn push_release(out: &mut ByteList, held: Option<RefValue>) -> Result<(), Memory>
     ensures { OnOk result (out.new ≡ out.old ++ release_label held) }
 {
@@ -133,6 +143,7 @@ fn push_object_and_packet(
     push_words_named(out, between, b"pk", packet)
 }
 
+// Appends which object was written as which packet, or the HRESULT where that failed.
 pub(crate) fn push_marshal(
     out: &mut ByteList,
     version: u8,
@@ -148,6 +159,7 @@ pub(crate) fn push_marshal(
     push_object_and_packet(out, b"packs ", object, b" in ", packet)
 }
 
+// Appends which object was read from which packet, or the HRESULT where that failed.
 pub(crate) fn push_unmarshal(
     out: &mut ByteList,
     version: u8,
@@ -163,6 +175,7 @@ pub(crate) fn push_unmarshal(
     push_object_and_packet(out, b"unpacks ", object, b" from ", packet)
 }
 
+// Appends which packet was given up, or the HRESULT where that failed.
 pub(crate) fn push_drop(
     out: &mut ByteList,
     version: u8,
@@ -177,6 +190,7 @@ pub(crate) fn push_drop(
     push_words_named(out, b"drops ", b"pk", packet)
 }
 
+// Appends an object and its cookie in the global interface table.
 fn push_registered(
     out: &mut ByteList,
     cookie: Option<u32>,
@@ -188,6 +202,7 @@ fn push_registered(
     push_words_named(out, b" gets cookie ", b"", cookie)
 }
 
+// Appends which object got which cookie, or the HRESULT where it was not registered.
 pub(crate) fn push_register(
     out: &mut ByteList,
     version: u8,
@@ -203,6 +218,7 @@ pub(crate) fn push_register(
     push_registered(out, cookie, object)
 }
 
+// Appends an object and the cookie by which it was taken from the global interface table.
 fn push_got(out: &mut ByteList, cookie: i64, object: Option<u32>) -> Result<(), Memory>
     ensures { OnOk result (out.new ≡ out.old ++ got_label cookie object) }
 {
@@ -210,6 +226,7 @@ fn push_got(out: &mut ByteList, cookie: i64, object: Option<u32>) -> Result<(), 
     push_words_signed(out, b" by cookie ", cookie)
 }
 
+// Appends which object a cookie gave, or the HRESULT where it gave none.
 pub(crate) fn push_get(
     out: &mut ByteList,
     version: u8,
@@ -225,6 +242,7 @@ pub(crate) fn push_get(
     push_got(out, cookie, object)
 }
 
+// Appends which cookie was ended, or the HRESULT where that failed.
 pub(crate) fn push_revoke(
     out: &mut ByteList,
     version: u8,
@@ -239,6 +257,7 @@ pub(crate) fn push_revoke(
     push_words_signed(out, b"revokes cookie ", cookie)
 }
 
+// Appends which object was disconnected from all callers, or the HRESULT where that failed.
 pub(crate) fn push_disconnect(
     out: &mut ByteList,
     version: u8,

@@ -34,16 +34,18 @@ gloss_of n =
 abbrev pub gloss : (version : ℕ) → HResult → List ℕ
 gloss version hr = unwrap_or (gloss_of hr.0) (hresult_text version hr)
 
--- Why something failed, and what stands there where it did not.
+-- Why something failed, behind a colon.
 abbrev pub failure_text : (version : ℕ) → HResult → List ℕ
 failure_text version hr = codes ": " ++ gloss version hr
 
+-- Why something failed, where the HRESULT tells a failure; else nothing.
 abbrev pub failure_if : (version : ℕ) → HResult → List ℕ
 failure_if version hr = if has_failed hr then failure_text version hr else []
 
--- An HRESULT behind a colon, and where it tells a failure.
+-- An HRESULT behind a colon, as the entry's line has it.
 abbrev pub hresult_behind : (version : ℕ) → HResult → List ℕ
 hresult_behind version hr = codes ": " ++ hresult_text version hr
 
+-- The HRESULT as the entry's line has it, where it tells a failure; else nothing.
 abbrev pub hresult_if : (version : ℕ) → HResult → List ℕ
 hresult_if version hr = if has_failed hr then hresult_behind version hr else []

@@ -4,6 +4,7 @@ use Rattle.std.specs.Fmt.{signed_decimal}
 use Rattle.com_filter.specs.declared.Verdict.{Verdict}
 use Rattle.com_filter.specs.declared.Verdict.TheVariants as verdict
 
+-- What a message filter does with a call, as a verb: it rejects the call, puts it off or takes it.
 abbrev pub verdict_verb : Verdict → List ℕ
 verdict_verb verdict.Rejected = codes "rejects"
 verdict_verb verdict.Later = codes "puts off"

@@ -1,5 +1,5 @@
 -- What stands for apartments, objects, classes, interfaces and methods.
-use Rattle.std.specs.Prelude.{ℕ, ◌==◌, nat_lt, if◌then◌else◌, List, [], Option, Some, None, codes}
+use Rattle.std.specs.Prelude.{ℕ, ◌^◌, ◌==◌, nat_lt, if◌then◌else◌, List, [], Option, Some, None, codes}
 use Rattle.com_base.specs.Guids.{text_of}
 use Rattle.com_body.specs.declared.operands.Asked.{Asked}
 use Rattle.com_body.specs.declared.operands.Asked.TheVariants as asked
@@ -37,6 +37,7 @@ abbrev pub class_name : Option Class → List ℕ
 class_name None = []
 class_name (Some k) = k.name
 
+-- A class by its name, or by the CLSID that it is asked for by; nothing for a number that no class has.
 abbrev pub class_words : Tables → Asked → List ℕ
 class_words t (asked.Number c) = class_name (class_at t c)
 class_words t (asked.Guid g) = text_of g
@@ -47,7 +48,7 @@ interface_name (Some i) = i.name
 
 -- An interface's number has 16 bits.
 abbrev pub interface_words : Tables → Asked → List ℕ
-interface_words t (asked.Number i) = if nat_lt i 65536 then interface_name (interface_at t i) else []
+interface_words t (asked.Number i) = if nat_lt i (2 ^ 16) then interface_name (interface_at t i) else []
 interface_words t (asked.Guid g) = text_of g
 
 -- A method by its name, or by its number where the interface has no such method.
@@ -55,9 +56,11 @@ abbrev pub method_or : ℕ → Option Method → List ℕ
 method_or m None = word_and_number (codes "#") m
 method_or m (Some k) = k.name
 
+-- A method by its name, or by `#` and its number where the interface has no such method.
 abbrev pub method_words : Tables → (iface method : ℕ) → List ℕ
 method_words t i m = method_or m (method_at t i m)
 
+-- A method by its name, escaped, or by `#` and its number where there is no such method.
 abbrev pub shown_method_or : ℕ → Option Method → List ℕ
 shown_method_or m None = word_and_number (codes "#") m
 shown_method_or m (Some k) = escaped k.name
@@ -66,11 +69,12 @@ shown_method_or m (Some k) = escaped k.name
 abbrev pub shown_method : Tables → (iface method : ℕ) → List ℕ
 shown_method t i m = shown_method_or m (method_at t i m)
 
--- The method that a caller called, plain and escaped.
+-- The method that a caller called, by its name as it is; nothing where nobody waits for the call.
 abbrev pub called_words : Tables → Option Caller → List ℕ
 called_words t None = []
 called_words t (Some k) = method_words t k.iface k.method
 
+-- The method that a caller called, escaped; nothing where nobody waits for the call.
 abbrev pub shown_called : Tables → Option Caller → List ℕ
 shown_called t None = []
 shown_called t (Some k) = shown_method t k.iface k.method

@@ -17,6 +17,7 @@ given_text (Some v) = value_words v
 abbrev pub shown_value : Value → List ℕ
 shown_value v = codes ":" ++ escaped (value_words v)
 
+-- The value that a call gives back, as a story has it; nothing where it gives none.
 abbrev pub shown_given : Option Value → List ℕ
 shown_given None = []
 shown_given (Some v) = shown_value v

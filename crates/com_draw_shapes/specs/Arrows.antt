@@ -33,6 +33,7 @@ pointing_text point.Refusal l d w b = called_arrow kind.Refusal l d w
 pointing_text point.Go l d w b = called_arrow kind.Go l (d + 1) w
 pointing_text point.Answer l d w b = called_arrow kind.Answer l d w
 
+-- The mark on the track of this number, in the lane of the objects; none where the object has no track.
 abbrev pub touch_on : (lane : ℕ) → (number : Option ℕ) → List ℕ
 touch_on m None = []
 touch_on m (Some k) = touch_text m (2 * k)

@@ -30,6 +30,7 @@ use Rattle.com_draw_shapes.specs.Places.{is_up, top_in}
 
 -- ---- homes
 
+-- The box of a lane's home: the ground along its column, as far as this row of the section.
 abbrev pub home_box : Start → (lane : ℕ) → Foot → Home → DrawnBox
 home_box here l f home = record {
   kind = kind.Home;
@@ -50,6 +51,7 @@ home_boxes here l f (Some home) = box_text (home_box here l f home)
 
 -- ---- what is open
 
+-- The kind of its box: a pump's, a body's, or that of a call which was refused, runs in another lane or in its own.
 abbrev pub kind_of : Opened → BoxKind
 kind_of what.Pumps = kind.Pump
 kind_of (what.Waits call manner.Refused iface method) = kind.Refused
@@ -63,11 +65,13 @@ hue_in what.Pumps = 9
 hue_in (what.Waits call m iface method) = 9
 hue_in (what.Runs call apartment) = hue_of apartment
 
+-- The text in the box: the number of the call; none for a pump.
 abbrev pub inner_of : Opened → BoxText
 inner_of what.Pumps = inner.Nothing
 inner_of (what.Waits call m iface method) = inner.Call call
 inner_of (what.Runs call apartment) = inner.Call call
 
+-- The box of what is open at a depth of a lane, as far as this row of the section.
 abbrev pub opening_box : Start → (lane : ℕ) → Foot → (depth : ℕ) → Opening → DrawnBox
 opening_box here l f d o = record {
   kind = kind_of o.what;
@@ -96,10 +100,13 @@ opening_boxes here l f d (o ∷ os) = opening_text here l f d o ++ opening_boxes
 abbrev pub objects_lane : State → ℕ
 objects_lane b = length b.lanes + 1
 
+-- The kind of an object's bar: alive, or cut off from other apartments.
 abbrev pub life_of : (is_live : Bool) → BoxKind
 life_of true = kind.Live
 life_of false = kind.Cut
 
+-- The bar of an object's life on the track of this number, as far as this row of the section. From one track to the
+-- next are two levels.
 abbrev pub track_box : Start → (lane : ℕ) → Foot → (number : ℕ) → Track → DrawnBox
 track_box here m f k t = record {
   kind = life_of t.is_live;
@@ -136,6 +143,7 @@ track_boxes here m f x k (t ∷ ts) =
 
 -- ---- what an entry closes
 
+-- The home of a lane; None where it has none, or where no lane has the number.
 abbrev pub home_in : Option Lane → Option Home
 home_in None = None
 home_in (Some row) = row.home
@@ -150,6 +158,7 @@ abbrev pub innermost_box : Start → (lane : ℕ) → (depth : ℕ) → Option O
 innermost_box here l d None = []
 innermost_box here l d (Some o) = opening_text here l foot.Inner d o
 
+-- The box of what is innermost in a lane; none where nothing is open, or where no lane has the number.
 abbrev pub innermost_boxes : Start → (lane : ℕ) → Option Lane → List ℕ
 innermost_boxes here l None = []
 innermost_boxes here l (Some row) = innermost_box here l (length row.openings) (innermost row.openings)

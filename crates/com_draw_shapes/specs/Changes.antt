@@ -36,6 +36,7 @@ left_on here l a b =
 abbrev pub cut_on : Start → (object : ℕ) → State → State
 cut_on here o b = with_tracks (map (cut_of_object o (below here)) b.tracks) b
 
+-- The board after what an entry closes: a home is left, the innermost goes, an object is cut off, or its track is free.
 abbrev pub closed_on : Start → (lane : ℕ) → Closing → State → State
 closed_on here l close.Nothing b = b
 closed_on here l (close.Home a) b = left_on here l a b
@@ -43,6 +44,7 @@ closed_on here l close.Innermost b = with_lanes (with_lane without_innermost l b
 closed_on here l (close.Cut o) b = cut_on here o b
 closed_on here l (close.Life o) b = with_tracks (map (freed o) b.tracks) b
 
+-- Whether a lane has a home; false where no lane has the number.
 abbrev pub own_home : Option Lane → Bool
 own_home None = false
 own_home (Some row) = is_some row.home

@@ -27,6 +27,7 @@ opens_home has_home a hr = if has_home || is_failure hr then opens.Nothing else 
 abbrev pub opens_life : (object apartment : ℕ) → HResult → Opens
 opens_life o a hr = if is_failure hr then opens.Nothing else opens.Life o a
 
+-- How a call by this route is waited for: a posted one across lanes, any other that is not refused within its own lane.
 abbrev pub manner_of : Route → Manner
 manner_of route.Refused = manner.Refused
 manner_of route.Post = manner.Across

@@ -24,5 +24,6 @@ top_in here at = if at.section == here.section then at.row else 0
 abbrev pub is_up : (here start : Start) → Bool
 is_up here at = not (at.section == here.section)
 
+-- The next row of the section.
 abbrev pub below : Start → Start
 below here = record { section = here.section; row = here.row + 1 }

@@ -44,10 +44,10 @@ boxes_below here cycle b =
 unfoldable pub back_of_section : Start → (cycle : List ℕ) → State → List ℕ
 back_of_section here cycle b = section_back_text ++ boxes_below here cycle b ++ section_end_text
 
--- What stands before a row of the page: where a section begins with it, the end of the section above, and the
--- front of this one.
+-- The end of the section above one that begins with this row; before the first row there is none.
 abbrev pub row_before : (row : ℕ) → State → List ℕ
 row_before m b = if m == 1 then [] else back_of_section (row_at (m - 1)) [] b
 
+-- All that stands before a row: where a section begins with it, the end of the one above and its own front.
 unfoldable pub row_begins : (row : ℕ) → State → List ℕ
 row_begins m b = if opens_section m then row_before m b ++ front_of_section b else []

@@ -65,6 +65,7 @@ pub fn push_pointing(
     }
 }
 
+// Appends the mark on the track of this number, in the lane of the objects, where there is one.
 fn push_touch_on(out: &mut ByteList, lane: u32, number: Option<u32>) -> Result<(), Memory>
     requires { IfSome number (λ k. k < 16) }
     ensures { OnOk result (out.new ≡ out.old ++ touch_on lane number) }

@@ -64,6 +64,7 @@ pub(crate) fn push_home(
     }
 }
 
+// The kind of its box: a pump's, a body's, or a call's by how that is waited for.
 fn kind_of(what: &Opened) -> BoxKind
     ensures { result ≡ kind_of what.now }
 {
@@ -95,6 +96,7 @@ fn hue_in(what: &Opened) -> u8
     }
 }
 
+// The text in the box: the number of the call; none for a pump.
 fn inner_of(what: &Opened) -> BoxText
     ensures { result ≡ inner_of what.now }
 {
@@ -160,6 +162,7 @@ pub(crate) fn push_openings(
     Ok(())
 }
 
+// The kind of an object's bar: alive, or cut off from other apartments.
 fn life_of(is_live: bool) -> BoxKind
     ensures { result ≡ life_of is_live }
 {

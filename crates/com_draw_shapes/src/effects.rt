@@ -88,6 +88,7 @@ pub fn opened_by(deed: &Deed, has_home: bool) -> Opens
     }
 }
 
+// What an Init opens: its lane's home, unless the lane had one or the Init failed.
 fn opens_home(has_home: bool, home: u32, hr: HResult) -> Opens
     ensures { result ≡ opens_home has_home home hr }
 {
@@ -97,6 +98,7 @@ fn opens_home(has_home: bool, home: u32, hr: HResult) -> Opens
     Opens::Home { apartment: home }
 }
 
+// What a Made opens: the life of its object, unless it failed.
 fn opens_life(object: u32, apartment: u32, hr: HResult) -> Opens
     ensures { result ≡ opens_life object apartment hr }
 {
@@ -138,6 +140,7 @@ pub fn closed_by(deed: &Deed) -> Closing
     }
 }
 
+// What an Uninit closes: its lane's home where the count is 0 after it, else nothing.
 fn closes_home(apartment: u32, count: u32) -> Closing
     ensures { result ≡ closes_home apartment count }
 {
@@ -147,6 +150,7 @@ fn closes_home(apartment: u32, count: u32) -> Closing
     Closing::Nothing
 }
 
+// What a Disconnect closes: it cuts its object off, unless it failed.
 fn closes_object(object: u32, hr: HResult) -> Closing
     ensures { result ≡ closes_object object hr }
 {
@@ -171,6 +175,7 @@ pub fn points_of(deed: &Deed) -> Points
     }
 }
 
+// A word or a quit points to the lane that it names; one that failed points nowhere.
 fn points_to(lane: i64, hr: HResult) -> Points
     ensures { result ≡ points_to lane hr }
 {
@@ -211,6 +216,7 @@ pub fn touched_by(deed: &Deed) -> Option<u32>
     }
 }
 
+// The object of a reference; none of null.
 fn held_object(held: Option<RefValue>) -> Option<u32>
     ensures { result ≡ held_object held }
 {

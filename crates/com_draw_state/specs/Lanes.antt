@@ -14,6 +14,7 @@ use Rattle.com_draw_state.specs.Stacks.{outer}
 abbrev pub new_lane : Option Home → Lane
 new_lane home = record { home = home; openings = []; has_acted = false; width = 0 }
 
+-- A lane without home that made no entry.
 abbrev pub no_lane : Lane
 no_lane = new_lane None
 
@@ -48,6 +49,7 @@ homed home row = record row { home = home }
 abbrev pub with_opening : Opening → Lane → Lane
 with_opening o row = record row { openings = row.openings ++ o ∷ [] }
 
+-- What is innermost in the lane is closed. Where nothing is open the lane stays.
 abbrev pub without_innermost : Lane → Lane
 without_innermost row = record row { openings = outer row.openings }
 
@@ -62,6 +64,7 @@ abbrev pub waiter_at : (lane depth : ℕ) → List Opening → (call : ℕ) → 
 waiter_at l d [] c = None
 waiter_at l d (o ∷ os) c = option_or (waiter_by l d o.what c) (waiter_at l (d + 1) os c)
 
+-- Who waits for a call among these lanes, of which the first has this number. None where nobody does.
 abbrev pub waiter_in : (lane : ℕ) → List Lane → (call : ℕ) → Option Waiter
 waiter_in l [] c = None
 waiter_in l (row ∷ rows) c = option_or (waiter_at l 1 row.openings c) (waiter_in (l + 1) rows c)

@@ -3,18 +3,22 @@
 use Rattle.std.specs.Prelude.{ℕ, ◌+◌, Bool, true, false, ◌==◌, ◌&&◌, nat_lt, if◌then◌else◌}
 use Rattle.std.specs.Prelude.{List, [], ◌∷◌, ◌++◌, Option, Some, None, length, slice_set}
 use Rattle.com_draw_state.specs.declared.stacks.Start.{Start}
+use Rattle.com_draw_state.specs.declared.tracks.TheConstants.{TRACKS}
 use Rattle.com_draw_state.specs.declared.tracks.Track.{Track}
 
 -- ---- one track
 
+-- Whether a track is that of an object, be it cut off or not. A free track is that of none.
 abbrev pub is_of : (object : ℕ) → Option Track → Bool
 is_of o None = false
 is_of o (Some t) = t.object == o
 
+-- Whether a track is that of an object that was not cut off.
 abbrev pub is_live_of : (object : ℕ) → Option Track → Bool
 is_live_of o None = false
 is_live_of o (Some t) = t.is_live && t.object == o
 
+-- Whether a track is that of an object that lives in the apartment and was not cut off.
 abbrev pub is_live_in : (apartment : ℕ) → Option Track → Bool
 is_live_in a None = false
 is_live_in a (Some t) = t.is_live && t.apartment == a
@@ -23,10 +27,12 @@ is_live_in a (Some t) = t.is_live && t.apartment == a
 abbrev pub cut : Start → Track → Track
 cut at t = record { object = t.object; apartment = t.apartment; is_live = false; start = at }
 
+-- A track, cut off here if it is that of the object and was not cut off before.
 abbrev pub cut_of_object : (object : ℕ) → Start → Option Track → Option Track
 cut_of_object o at None = None
 cut_of_object o at (Some t) = if t.is_live && t.object == o then Some (cut at t) else Some t
 
+-- A track, cut off here if its object lives in the apartment and was not cut off before.
 abbrev pub cut_of_apartment : (apartment : ℕ) → Start → Option Track → Option Track
 cut_of_apartment a at None = None
 cut_of_apartment a at (Some t) = if t.is_live && t.apartment == a then Some (cut at t) else Some t
@@ -49,10 +55,11 @@ free_in n [] = None
 free_in n (None ∷ ts) = Some n
 free_in n (Some t ∷ ts) = free_in (n + 1) ts
 
--- An object that is made takes the first free track, else one that was not used yet, of which there are 16.
+-- An object that is made takes the first free track, else one that was not used yet. There are `TRACKS` tracks.
 abbrev pub taken_at : Track → List (Option Track) → Option ℕ → List (Option Track)
-taken_at t ts None = if nat_lt (length ts) 16 then ts ++ Some t ∷ [] else ts
+taken_at t ts None = if nat_lt (length ts) TRACKS then ts ++ Some t ∷ [] else ts
 taken_at t ts (Some n) = slice_set ts n (Some t)
 
+-- The tracks with that of a new object. Where each of the `TRACKS` tracks is an object's already, the new object gets none.
 abbrev pub taken : Track → List (Option Track) → List (Option Track)
 taken t ts = taken_at t ts (free_in 0 ts)

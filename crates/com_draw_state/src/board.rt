@@ -11,7 +11,7 @@ use crate::lanes::{
 };
 use crate::stacks::{Opened, Opening, Start};
 use crate::tracks::{Track, Tracks};
-use com_base::Memory;
+use com_base::{HOST_STA, MTA, Memory};
 use std::alloc::Global;
 use std::marker::Model;
 
@@ -153,11 +153,6 @@ impl Board {
     }
 }
 
-// The multithreaded apartment, whose lanes are the pool's, and the host's apartment.
-const MTA: u32 = 1;
-
-const HOST_STA: u32 = 2;
-
 // A home that was entered above the first section.
 fn home_from_above(apartment: u32) -> Home
     ensures { result ≡ home_from_above apartment }
@@ -186,6 +181,7 @@ fn add_lanes(
     Ok(())
 }
 
+// Appends a lane with this home that made no entry. The only error is want of memory.
 fn add_lane(alloc: Global, lanes: &mut Vec<Lane>, home: Option<Home>) -> Result<(), Memory>
     ensures { OnOk result (lanes.new.items ≡ lanes.old.items ++ new_lane home ∷ []) }
 {

@@ -31,47 +31,58 @@ use Rattle.com_draw_stories.specs.Stories.{uninit_story, unmarshal_story}
 
 -- ---- filters, words and pumps
 
+-- That a lane sets a message filter, or removes its own.
 abbrev pub filter_plain : (lane : ℕ) → (filter : Option ℕ) → List ℕ
 filter_plain l None = lane_does l (codes " removes its message filter")
 filter_plain l (Some f) = lane_at l (codes " sets message filter F") f
 
+-- That a lane sets or removes its message filter where the HRESULT is S_OK, and cannot where it is another.
 abbrev pub filter_story : (lane : ℕ) → (filter : Option ℕ) → HResult → List ℕ
 filter_story l f hr =
     if hr.0 == 0 then filter_plain l f else lane_does l (codes " cannot set a message filter here")
 
+-- That a lane sends a word, and to which lane.
 abbrev pub sent_story : (lane : ℕ) → (to word : ℤ) → List ℕ
 sent_story l m w = lane_signed l (codes " sends word ") w ++ codes " to L" ++ signed_decimal m
 
+-- That a lane sends a word to a lane, or why it cannot.
 abbrev pub post_story : Speaker → (to word : ℤ) → HResult → List ℕ
 post_story s m w hr =
     if has_failed hr then signed_fails s (codes " cannot send a word to lane ") m hr
     else sent_story s.lane m w
 
+-- That a lane tells a lane to end its pump.
 abbrev pub told_story : (lane : ℕ) → (to : ℤ) → List ℕ
 told_story l m = lane_signed l (codes " tells L") m ++ codes " to end its pump"
 
+-- That a lane tells a lane to end its pump, or why it cannot.
 abbrev pub quit_story : Speaker → (to : ℤ) → HResult → List ℕ
 quit_story s m hr =
     if has_failed hr then signed_fails s (codes " cannot send a quit to lane ") m hr else told_story s.lane m
 
+-- That a lane pumps until so many bodies have left.
 abbrev pub bound_story : (lane bound : ℕ) → List ℕ
 bound_story l n = lane_at l (codes " pumps: it lets calls and words in, until ") n ++ codes " served"
 
+-- That a lane pumps: without a bound where it is 0, else until so many bodies have left.
 abbrev pub pump_story : (lane bound : ℕ) → List ℕ
 pump_story l n =
     if n == 0 then lane_does l (codes " pumps: it lets calls and words in") else bound_story l n
 
+-- That a lane that pumps takes a word from its queue.
 unfoldable pub took_story : (lane : ℕ) → (word : ℤ) → List ℕ
 took_story l w = lane_signed l (codes " takes word ") w
 
 -- ---- calls
 
+-- How a call goes to its target, behind the call's number, whose parenthesis is closed.
 abbrev pub route_words : Route → List ℕ
 route_words route.Direct = codes ") directly"
 route_words route.Switch = codes "), and changes apartments for it"
 route_words route.Post = codes ") in another apartment, and waits"
 route_words route.Refused = codes "), which is refused at once"
 
+-- That a lane calls a method of an object, or of null, and how the call goes there.
 abbrev pub out_story : Tables → Caller → (call : ℕ) → (object : Option ℕ) → Route → List ℕ
 out_story t k c o r =
     lane_does k.lane (codes " calls ") ++ shown_method t k.iface k.method ++ codes " of " ++ object_text o
@@ -93,10 +104,12 @@ type_reason n =
     else if n == 2 then codes ": it is a callback"
     else codes ": its own call waits"
 
+-- What a lane's filter does with a call, who made that, and why the filter was asked.
 abbrev pub verdict_story : (lane caller call call_type : ℕ) → Verdict → List ℕ
 verdict_story l m c n v =
     lane_does l (codes "'s filter ") ++ verdict_verb v ++ call_of_lane c m ++ type_reason n
 
+-- That a lane cannot take a call in, who made that, and why.
 abbrev pub refuse_story : Speaker → (caller call : ℕ) → HResult → List ℕ
 refuse_story s m c hr =
     lane_does s.lane (codes " cannot take in") ++ call_of_lane c m ++ failure_text s.version hr
@@ -112,14 +125,17 @@ type_words None = []
 type_words (Some n) =
     if n == 2 then codes ": a callback" else if n == 4 then codes ", while its own call waits" else []
 
+-- For whom a body runs where that is another lane, of which call it is, and what it comes in between.
 abbrev pub entered_call : (lane : ℕ) → Called → (call_type : Option ℕ) → List ℕ
 entered_call l c n = for_lane l c.caller ++ codes " (" ++ link_text c.call ++ codes ")" ++ type_words n
 
+-- That a lane runs the method that a caller called, of which object, in which apartment.
 abbrev pub entered_method : Tables → (lane : ℕ) → Option Caller → Entered → List ℕ
 entered_method t l k b =
     lane_does l (codes " runs ") ++ shown_called t k ++ word_and_number (codes " of o") b.object
     ++ codes " in " ++ place_text b.apartment
 
+-- That a lane runs a method of an object, in which apartment, and for which call.
 abbrev pub enter_story : Tables → (lane : ℕ) → Called → Entered → List ℕ
 enter_story t l c b = entered_method t l c.caller b ++ entered_call l c b.call_type
 
@@ -127,33 +143,44 @@ enter_story t l c b = entered_method t l c.caller b ++ entered_call l c b.call_t
 abbrev pub outcome : (version : ℕ) → HResult → Option Value → List ℕ
 outcome version hr v = if has_failed hr then failure_text version hr else shown_given v
 
+-- That nobody waits for the answer of a call, where nobody does.
 abbrev pub unwaited : Option Caller → List ℕ
 unwaited None = codes "; nobody waits for it"
 unwaited (Some k) = []
 
+-- That a lane answers a call: what that gives or why it failed, and that nobody waits for it where nobody does.
 abbrev pub leave_story : Speaker → Called → HResult → Option Value → List ℕ
 leave_story s c hr v =
     lane_does s.lane (codes " answers ") ++ link_text c.call ++ outcome s.version hr v ++ unwaited c.caller
 
+-- That a lane has the answer of its call: what that gave, or why it failed.
 abbrev pub back_story : Speaker → (call : ℕ) → HResult → Option Value → List ℕ
 back_story s c hr v = lane_does s.lane (codes " has the answer of ") ++ link_text c ++ outcome s.version hr v
 
+-- When a call is sent again, by a filter's answer: at once below 100, and else after so many milliseconds.
 abbrev pub again_words : ℤ → List ℕ
 again_words n = if int_lt n (pos 100) then codes " again at once" else later_words n
 
+-- That a lane's filter has a call sent again, and when.
 abbrev pub sends_again : (lane call : ℕ) → (answer : ℤ) → List ℕ
 sends_again l c n = lane_does l (codes "'s filter sends ") ++ link_text c ++ again_words n
 
+-- What a lane's filter does with a call of the lane that was not taken: a negative answer gives it up, and any
+-- other has it sent again.
 abbrev pub retry_story : (lane call : ℕ) → (answer : ℤ) → List ℕ
 retry_story l c n =
     if int_lt n (pos 0) then lane_link l (codes "'s filter gives ") c (codes " up") else sends_again l c n
 
+-- That a lane's filter cancels the call for which the lane waits, and for which word.
 abbrev pub cancels_story : (lane call : ℕ) → (word : ℤ) → List ℕ
 cancels_story l c w = lane_link l (codes "'s filter cancels ") c (codes " for word ") ++ signed_decimal w
 
+-- What a lane's filter does with a word, and that the lane waits on for its call.
 abbrev pub waits_on : (lane : ℕ) → List ℕ → (call : ℕ) → (word : ℤ) → List ℕ
 waits_on l words c w = lane_signed l words w ++ codes ", and waits on for " ++ link_text c
 
+-- What a lane's filter does about a word that came while a call waits: 0 cancels the call, 1 leaves the word,
+-- and any other answer takes the word away.
 abbrev pub pending_story : (lane call : ℕ) → (word : ℤ) → (answer : ℕ) → List ℕ
 pending_story l c w n =
     if n == 0 then cancels_story l c w
@@ -162,6 +189,7 @@ pending_story l c w n =
 
 -- ---- all rows
 
+-- That no lane can go on, and to which time the clock moves, in milliseconds.
 abbrev pub tick_story : (clock : ℕ) → List ℕ
 tick_story n = codes "No lane can go on, so the clock moves to " ++ decimal n ++ codes " ms"
 

@@ -22,6 +22,7 @@ use com_filter::Verdict;
 use com_model::Route;
 use std::alloc::Global;
 
+// Appends that a lane sets a message filter, or removes its own.
 fn push_filter_plain(out: &mut ByteList, lane: u32, filter: Option<u32>) -> Result<(), Memory>
     ensures { OnOk result (out.new ≡ out.old ++ filter_plain lane filter) }
 {
@@ -31,6 +32,8 @@ fn push_filter_plain(out: &mut ByteList, lane: u32, filter: Option<u32>) -> Resu
     }
 }
 
+// Appends that a lane sets or removes its message filter where the HRESULT is S_OK, and cannot
+// where it is another.
 pub(crate) fn push_filter(
     out: &mut ByteList,
     lane: u32,
@@ -45,6 +48,7 @@ pub(crate) fn push_filter(
     push_does(out, lane, b" cannot set a message filter here")
 }
 
+// Appends that a lane sends a word, and to which lane.
 fn push_sent(out: &mut ByteList, lane: u32, to: i64, word: i64) -> Result<(), Memory>
     ensures { OnOk result (out.new ≡ out.old ++ sent_story lane to word) }
 {
@@ -53,6 +57,7 @@ fn push_sent(out: &mut ByteList, lane: u32, to: i64, word: i64) -> Result<(), Me
     push_signed(out, to)
 }
 
+// Appends that a lane sends a word to a lane, or why it cannot.
 pub(crate) fn push_post(
     out: &mut ByteList,
     speaker: Speaker,
@@ -68,6 +73,7 @@ pub(crate) fn push_post(
     push_sent(out, speaker.lane, to, word)
 }
 
+// Appends that a lane tells a lane to end its pump.
 fn push_told(out: &mut ByteList, lane: u32, to: i64) -> Result<(), Memory>
     ensures { OnOk result (out.new ≡ out.old ++ told_story lane to) }
 {
@@ -75,6 +81,7 @@ fn push_told(out: &mut ByteList, lane: u32, to: i64) -> Result<(), Memory>
     out.push_all(b" to end its pump")
 }
 
+// Appends that a lane tells a lane to end its pump, or why it cannot.
 pub(crate) fn push_quit(
     out: &mut ByteList,
     speaker: Speaker,
@@ -89,6 +96,7 @@ pub(crate) fn push_quit(
     push_told(out, speaker.lane, to)
 }
 
+// Appends that a lane pumps until so many bodies have left.
 fn push_bound(out: &mut ByteList, lane: u32, bound: u32) -> Result<(), Memory>
     ensures { OnOk result (out.new ≡ out.old ++ bound_story lane bound) }
 {
@@ -101,6 +109,7 @@ fn push_bound(out: &mut ByteList, lane: u32, bound: u32) -> Result<(), Memory>
     out.push_all(b" served")
 }
 
+// Appends that a lane pumps: without a bound where it is 0, else until so many bodies have left.
 pub(crate) fn push_pump(out: &mut ByteList, lane: u32, bound: u32) -> Result<(), Memory>
     ensures { OnOk result (out.new ≡ out.old ++ pump_story lane bound) }
 {
@@ -110,12 +119,14 @@ pub(crate) fn push_pump(out: &mut ByteList, lane: u32, bound: u32) -> Result<(),
     push_bound(out, lane, bound)
 }
 
+// Appends that a lane that pumps takes a word from its queue.
 pub(crate) fn push_took(out: &mut ByteList, lane: u32, word: i64) -> Result<(), Memory>
     ensures { OnOk result (out.new ≡ out.old ++ took_story lane word) }
 {
     push_does_signed(out, lane, b" takes word ", word)
 }
 
+// Appends how a call goes to its target, behind the call's number, whose parenthesis is closed.
 fn push_route(out: &mut ByteList, route: Route) -> Result<(), Memory>
     ensures { OnOk result (out.new ≡ out.old ++ route_words route) }
 {
@@ -127,6 +138,7 @@ fn push_route(out: &mut ByteList, route: Route) -> Result<(), Memory>
     }
 }
 
+// Appends that a lane calls a method of an object, or of null, and how the call goes there.
 pub(crate) fn push_out(
     out: &mut ByteList,
     classes: &Classes,
@@ -175,6 +187,7 @@ fn push_reason(out: &mut ByteList, call_type: u8) -> Result<(), Memory>
     }
 }
 
+// Appends what a lane's filter does with a call, who made that, and why the filter was asked.
 pub(crate) fn push_verdict(
     out: &mut ByteList,
     lane: u32,
@@ -191,6 +204,7 @@ pub(crate) fn push_verdict(
     push_reason(out, call_type)
 }
 
+// Appends that a lane cannot take a call in, who made that, and why.
 pub(crate) fn push_refuse(
     out: &mut ByteList,
     speaker: Speaker,
@@ -230,6 +244,8 @@ fn push_type(out: &mut ByteList, call_type: Option<u8>) -> Result<(), Memory>
     }
 }
 
+// Appends for whom a body runs where that is another lane, of which call it is, and what it comes
+// in between.
 fn push_entered_call(
     out: &mut ByteList,
     lane: u32,
@@ -245,6 +261,7 @@ fn push_entered_call(
     push_type(out, call_type)
 }
 
+// Appends that a lane runs the method that a caller called, of which object, in which apartment.
 fn push_entered_method(
     out: &mut ByteList,
     classes: &Classes,
@@ -261,6 +278,7 @@ fn push_entered_method(
     push_place(out, entered.apartment)
 }
 
+// Appends that a lane runs a method of an object, in which apartment, and for which call.
 pub(crate) fn push_enter(
     out: &mut ByteList,
     classes: &Classes,
@@ -290,6 +308,7 @@ fn push_outcome(
     push_shown_given(alloc, out, value)
 }
 
+// Appends that nobody waits for the answer of a call, where nobody does.
 fn push_unwaited(out: &mut ByteList, caller: Option<Caller>) -> Result<(), Memory>
     ensures { OnOk result (out.new ≡ out.old ++ unwaited caller) }
 {
@@ -299,6 +318,8 @@ fn push_unwaited(out: &mut ByteList, caller: Option<Caller>) -> Result<(), Memor
     }
 }
 
+// Appends that a lane answers a call: what that gives or why it failed, and that nobody waits for
+// it where nobody does.
 pub(crate) fn push_leave(
     alloc: Global,
     out: &mut ByteList,
@@ -315,6 +336,7 @@ pub(crate) fn push_leave(
     push_unwaited(out, called.caller)
 }
 
+// Appends that a lane has the answer of its call: what that gave, or why it failed.
 pub(crate) fn push_back(
     alloc: Global,
     out: &mut ByteList,
@@ -330,6 +352,8 @@ pub(crate) fn push_back(
     push_outcome(alloc, out, speaker.version, hr, value)
 }
 
+// Appends when a call is sent again, by a filter's answer: at once below 100, and else after so
+// many milliseconds.
 fn push_again_words(out: &mut ByteList, answer: i64) -> Result<(), Memory>
     ensures { OnOk result (out.new ≡ out.old ++ again_words answer) }
 {
@@ -339,6 +363,7 @@ fn push_again_words(out: &mut ByteList, answer: i64) -> Result<(), Memory>
     push_later(out, answer)
 }
 
+// Appends that a lane's filter has a call sent again, and when.
 fn push_sends_again(out: &mut ByteList, lane: u32, call: u32, answer: i64) -> Result<(), Memory>
     ensures { OnOk result (out.new ≡ out.old ++ sends_again lane call answer) }
 {
@@ -347,6 +372,8 @@ fn push_sends_again(out: &mut ByteList, lane: u32, call: u32, answer: i64) -> Re
     push_again_words(out, answer)
 }
 
+// Appends what a lane's filter does with a call of the lane that was not taken: a negative answer
+// gives it up, and any other has it sent again.
 pub(crate) fn push_retry(
     out: &mut ByteList,
     lane: u32,
@@ -361,6 +388,7 @@ pub(crate) fn push_retry(
     push_sends_again(out, lane, call, answer)
 }
 
+// Appends that a lane's filter cancels the call for which the lane waits, and for which word.
 fn push_cancels(out: &mut ByteList, lane: u32, call: u32, word: i64) -> Result<(), Memory>
     ensures { OnOk result (out.new ≡ out.old ++ cancels_story lane call word) }
 {
@@ -368,6 +396,7 @@ fn push_cancels(out: &mut ByteList, lane: u32, call: u32, word: i64) -> Result<(
     push_signed(out, word)
 }
 
+// Appends what a lane's filter does with a word, and that the lane waits on for its call.
 fn push_waits_on(
     out: &mut ByteList,
     lane: u32,
@@ -382,6 +411,8 @@ fn push_waits_on(
     push_link(out, call)
 }
 
+// Appends what a lane's filter does about a word that came while a call waits: 0 cancels the call,
+// 1 leaves the word, and any other answer takes the word away.
 pub(crate) fn push_pending(
     out: &mut ByteList,
     lane: u32,
@@ -400,6 +431,7 @@ pub(crate) fn push_pending(
     push_waits_on(out, lane, b"'s filter drops word ", call, word)
 }
 
+// Appends that no lane can go on, and to which time the clock moves, in milliseconds.
 pub(crate) fn push_tick(out: &mut ByteList, clock: u64) -> Result<(), Memory>
     ensures { OnOk result (out.new ≡ out.old ++ tick_story clock) }
 {

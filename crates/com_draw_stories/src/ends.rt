@@ -35,6 +35,7 @@ pub fn push_pool_story(out: &mut ByteList, lane: u32, call: u32) -> Result<(), M
     push_link(out, call)
 }
 
+// Appends the lanes of a ring behind its first one, each behind a comma.
 fn push_later_lanes(out: &mut ByteList, lanes: &[u32]) -> Result<(), Memory>
     ensures { OnOk result (out.new ≡ out.old ++ later_lanes lanes.now) }
 {
@@ -46,6 +47,7 @@ fn push_later_lanes(out: &mut ByteList, lanes: &[u32]) -> Result<(), Memory>
     Ok(())
 }
 
+// Appends the lanes of a ring in its order, with commas between them.
 fn push_ring_lanes(out: &mut ByteList, lanes: &[u32]) -> Result<(), Memory>
     ensures { OnOk result (out.new ≡ out.old ++ ring_lanes lanes.now) }
 {
@@ -67,6 +69,7 @@ pub fn push_ring(out: &mut ByteList, lanes: &[u32]) -> Result<(), Memory>
     out.push_all(b"</strong>")
 }
 
+// Appends words, and the cookie of a sink behind them.
 fn push_sink(out: &mut ByteList, words: &[u8], cookie: u64) -> Result<(), Memory>
     ensures { OnOk result (out.new ≡ out.old ++ word_and_number words.now cookie) }
 {
@@ -74,6 +77,7 @@ fn push_sink(out: &mut ByteList, words: &[u8], cookie: u64) -> Result<(), Memory
     push_number(out, cookie)
 }
 
+// Appends the cookies of an event's sinks behind the first one, each behind a comma.
 fn push_later_sinks(out: &mut ByteList, sinks: &[u64]) -> Result<(), Memory>
     ensures { OnOk result (out.new ≡ out.old ++ later_sinks sinks.now) }
 {
@@ -85,6 +89,7 @@ fn push_later_sinks(out: &mut ByteList, sinks: &[u64]) -> Result<(), Memory>
     Ok(())
 }
 
+// Appends the sinks to which an event went, by their cookies, or that there is none.
 fn push_sinks(out: &mut ByteList, sinks: &[u64]) -> Result<(), Memory>
     ensures { OnOk result (out.new ≡ out.old ++ sinks_text sinks.now) }
 {
@@ -97,7 +102,7 @@ fn push_sinks(out: &mut ByteList, sinks: &[u64]) -> Result<(), Memory>
     }
 }
 
-/// Appends which sinks got an event, by their cookies. The only error is want of memory.
+/// Appends to which sinks the Outs of an event went, by their cookies. The only error is want of memory.
 pub fn push_event(out: &mut ByteList, call: u32, sinks: &[u64]) -> Result<(), Memory>
     ensures { OnOk result (out.new ≡ out.old ++ event_text call sinks.now) }
 {
@@ -107,6 +112,8 @@ pub fn push_event(out: &mut ByteList, call: u32, sinks: &[u64]) -> Result<(), Me
     push_sinks(out, sinks)
 }
 
+// Appends how a history ended, behind the time of its clock: with all done, stuck, or with as many
+// entries as it may have.
 fn push_ended(out: &mut ByteList, ended: Ended) -> Result<(), Memory>
     ensures { OnOk result (out.new ≡ out.old ++ ended_words ended) }
 {
@@ -119,6 +126,7 @@ fn push_ended(out: &mut ByteList, ended: Ended) -> Result<(), Memory>
     }
 }
 
+// Appends how a history ended, in the report's word for it.
 fn push_end(out: &mut ByteList, ended: Ended) -> Result<(), Memory>
     ensures { OnOk result (out.new ≡ out.old ++ ended_text ended) }
 {
@@ -129,6 +137,7 @@ fn push_end(out: &mut ByteList, ended: Ended) -> Result<(), Memory>
     }
 }
 
+// Appends what opens the summary: a paragraph whose class tells how the history ended.
 fn push_summary_front(out: &mut ByteList, ended: Ended) -> Result<(), Memory>
     ensures { OnOk result (out.new ≡ out.old ++ summary_front ended) }
 {

@@ -21,6 +21,7 @@ use com_draw_names::{
 };
 use com_draw_words::{push_number, push_word_and_number};
 
+// Appends that a lane enters an apartment, once more where it is in one already, or why it cannot.
 pub(crate) fn push_init(
     out: &mut ByteList,
     speaker: Speaker,
@@ -39,6 +40,7 @@ pub(crate) fn push_init(
     push_does_place(out, speaker.lane, b" enters ", home, b"")
 }
 
+// Appends that a lane leaves its apartment once, and how many of its initialisations are left.
 fn push_leaves_once(out: &mut ByteList, lane: u32, home: u32, count: u32) -> Result<(), Memory>
     ensures { OnOk result (out.new ≡ out.old ++ leaves_once lane home count) }
 {
@@ -47,6 +49,8 @@ fn push_leaves_once(out: &mut ByteList, lane: u32, home: u32, count: u32) -> Res
     out.push_all(b" to go")
 }
 
+// Appends that a lane leaves its apartment, and how many of its initialisations are left if any is,
+// or that it is in none.
 pub(crate) fn push_uninit(
     out: &mut ByteList,
     lane: u32,
@@ -64,6 +68,7 @@ pub(crate) fn push_uninit(
     push_leaves_once(out, lane, home, count)
 }
 
+// Appends that a lane cannot make an object of a class, and why.
 fn push_unmade(
     out: &mut ByteList,
     classes: &Classes,
@@ -78,6 +83,7 @@ fn push_unmade(
     push_failure(out, speaker.version, hr)
 }
 
+// Appends that a lane makes an object of a class, and in which apartment that lives.
 fn push_made(
     out: &mut ByteList,
     classes: &Classes,
@@ -94,6 +100,7 @@ fn push_made(
     push_place_at(out, born.apartment)
 }
 
+// Appends that a lane makes an object of a class and where that lives, or why it cannot.
 pub(crate) fn push_create(
     out: &mut ByteList,
     classes: &Classes,
@@ -110,6 +117,7 @@ pub(crate) fn push_create(
     push_made(out, classes, speaker.lane, born, class)
 }
 
+// Appends that a lane asks an object, or null, for an interface, and why that fails where it does.
 pub(crate) fn push_query(
     out: &mut ByteList,
     classes: &Classes,
@@ -127,6 +135,7 @@ pub(crate) fn push_query(
     push_failure_if(out, speaker.version, hr)
 }
 
+// Appends that a lane copies a reference to an object, or a null one.
 pub(crate) fn push_copy(out: &mut ByteList, lane: u32, held: Option<RefValue>) -> Result<(), Memory>
     ensures { OnOk result (out.new ≡ out.old ++ copy_story lane held) }
 {
@@ -136,6 +145,7 @@ pub(crate) fn push_copy(out: &mut ByteList, lane: u32, held: Option<RefValue>) -
     }
 }
 
+// Appends that a lane releases a reference to an object, or a null one.
 pub(crate) fn push_release(
     out: &mut ByteList,
     lane: u32,
@@ -149,6 +159,7 @@ pub(crate) fn push_release(
     }
 }
 
+// Appends whether a packet is normal, strong or weak.
 fn push_mode(out: &mut ByteList, mode: MarshalMode) -> Result<(), Memory>
     ensures { OnOk result (out.new ≡ out.old ++ mode_words mode) }
 {
@@ -159,6 +170,7 @@ fn push_mode(out: &mut ByteList, mode: MarshalMode) -> Result<(), Memory>
     }
 }
 
+// Appends that a lane marshals a reference to an object, into which packet, and of which mode.
 fn push_packed(
     out: &mut ByteList,
     lane: u32,
@@ -174,6 +186,7 @@ fn push_packed(
     push_mode(out, mode)
 }
 
+// Appends that a lane marshals a reference to an object into a packet, or why it cannot.
 pub(crate) fn push_marshal(
     out: &mut ByteList,
     speaker: Speaker,
@@ -197,6 +210,7 @@ pub(crate) fn push_marshal(
     push_packed(out, speaker.lane, packet, mode, object)
 }
 
+// Appends that a lane unmarshals a reference to an object, and from which packet.
 fn push_unpacked(
     out: &mut ByteList,
     lane: u32,
@@ -210,6 +224,7 @@ fn push_unpacked(
     push_named(out, b"pk", packet)
 }
 
+// Appends that a lane unmarshals a reference from a packet, or why it cannot.
 pub(crate) fn push_unmarshal(
     out: &mut ByteList,
     speaker: Speaker,
@@ -225,6 +240,7 @@ pub(crate) fn push_unmarshal(
     push_unpacked(out, speaker.lane, packet, object)
 }
 
+// Appends that a lane gives a packet up, or why it cannot.
 pub(crate) fn push_drop(
     out: &mut ByteList,
     speaker: Speaker,
@@ -239,6 +255,7 @@ pub(crate) fn push_drop(
     push_does_named(out, speaker.lane, b" drops packet ", b"pk", packet)
 }
 
+// Appends how many bytes a lane puts into a packet buffer, and into which.
 pub(crate) fn push_raw(out: &mut ByteList, lane: u32, buffer: u8, length: u32) -> Result<(), Memory>
     ensures { OnOk result (out.new ≡ out.old ++ raw_story lane buffer length) }
 {
@@ -246,6 +263,8 @@ pub(crate) fn push_raw(out: &mut ByteList, lane: u32, buffer: u8, length: u32) -
     push_word_and_number(out, b" bytes into buffer p", buffer as u32)
 }
 
+// Appends that a lane puts a reference to an object into the global interface table, and under
+// which cookie.
 fn push_registered(
     out: &mut ByteList,
     lane: u32,
@@ -259,6 +278,7 @@ fn push_registered(
     push_named(out, b"", cookie)
 }
 
+// Appends that a lane puts a reference into the global interface table, or why it cannot.
 pub(crate) fn push_register(
     out: &mut ByteList,
     speaker: Speaker,
@@ -281,6 +301,8 @@ pub(crate) fn push_register(
     push_registered(out, speaker.lane, cookie, object)
 }
 
+// Appends that a lane takes a reference to an object from the global interface table, and by which
+// cookie.
 fn push_got(out: &mut ByteList, lane: u32, cookie: i64, object: Option<u32>) -> Result<(), Memory>
     ensures { OnOk result (out.new ≡ out.old ++ got_story lane cookie object) }
 {
@@ -289,6 +311,8 @@ fn push_got(out: &mut ByteList, lane: u32, cookie: i64, object: Option<u32>) -> 
     push_signed(out, cookie)
 }
 
+// Appends that a lane takes a reference from the global interface table by a cookie, or why it
+// cannot.
 pub(crate) fn push_get(
     out: &mut ByteList,
     speaker: Speaker,
@@ -304,6 +328,7 @@ pub(crate) fn push_get(
     push_got(out, speaker.lane, cookie, object)
 }
 
+// Appends that a lane revokes a cookie, or why it cannot.
 pub(crate) fn push_revoke(
     out: &mut ByteList,
     speaker: Speaker,
@@ -318,6 +343,7 @@ pub(crate) fn push_revoke(
     push_does_signed(out, speaker.lane, b" revokes cookie ", cookie)
 }
 
+// Appends that a lane cuts an object off from all other apartments.
 fn push_cut(out: &mut ByteList, lane: u32, object: Option<u32>) -> Result<(), Memory>
     ensures { OnOk result (out.new ≡ out.old ++ cut_story lane object) }
 {
@@ -325,6 +351,8 @@ fn push_cut(out: &mut ByteList, lane: u32, object: Option<u32>) -> Result<(), Me
     out.push_all(b" off from all other apartments")
 }
 
+// Appends that a lane disconnects an object, which cuts it off from all other apartments, or why it
+// cannot.
 pub(crate) fn push_disconnect(
     out: &mut ByteList,
     speaker: Speaker,
@@ -339,6 +367,7 @@ pub(crate) fn push_disconnect(
     push_cut(out, speaker.lane, object)
 }
 
+// Appends that nothing holds an object any more, and which lane ends it.
 pub(crate) fn push_final(out: &mut ByteList, lane: u32, object: u32) -> Result<(), Memory>
     ensures { OnOk result (out.new ≡ out.old ++ final_story lane object) }
 {

@@ -13,16 +13,18 @@ kind_text kind.Refusal = codes "no"
 kind_text kind.Word = codes "to"
 kind_text kind.Ring = codes "in"
 
--- On which side the other lane is.
+-- The class that says on which side the other lane is: ` r` where that is to the left, else ` l`.
 abbrev pub way_text : (other lane : ℕ) → List ℕ
 way_text other lane = if nat_lt other lane then codes " r" else codes " l"
 
+-- The two ends of an arrow: in the other lane and in the lane of the row, each at its drawn level.
 abbrev pub arrow_ends : Arrow → List ℕ
 arrow_ends a =
     word_and_number (codes " l") a.other ++ word_and_number (codes " m") a.lane
     ++ word_and_number (codes "\" style=\"--i:") (drawn_level a.other_level)
     ++ word_and_number (codes ";--j:") (drawn_level a.level)
 
+-- The element of an arrow: what it stands for, the side of the other lane, and its two ends.
 abbrev pub arrow_element : Arrow → List ℕ
 arrow_element a =
     codes "<s class=\"" ++ kind_text a.kind ++ way_text a.other a.lane ++ arrow_ends a ++ codes "\"></s>"

@@ -15,6 +15,7 @@ use Rattle.com_draw_words.specs.Escapes.{word_and_number}
 abbrev pub hue_of : ℕ → ℕ
 hue_of a = if nat_lt a 3 then a else 3 + (a - 3) % 6
 
+-- The class of a box by what it stands for; `none` is that of a call that was refused at its issue.
 abbrev pub kind_text : BoxKind → List ℕ
 kind_text kind.Home = codes "home"
 kind_text kind.Body = codes "body"
@@ -25,15 +26,18 @@ kind_text kind.Pump = codes "pump"
 kind_text kind.Live = codes "live"
 kind_text kind.Cut = codes "cut"
 
+-- The class of a box that began above its section, and nothing for one that begins in it.
 abbrev pub up_text : Bool → List ℕ
 up_text true = codes " up"
 up_text false = []
 
+-- The classes of a box that goes on below its section, with one more where its lane waits in the ring.
 abbrev pub foot_text : Foot → List ℕ
 foot_text foot.Inner = []
 foot_text foot.Down = codes " dn"
 foot_text foot.Ring = codes " dn ring"
 
+-- The text in a box: `c` and the number of a call, `o` and that of an object, or nothing.
 abbrev pub box_inner : BoxText → List ℕ
 box_inner inner.Nothing = []
 box_inner (inner.Call c) = word_and_number (codes "c") c
@@ -50,9 +54,11 @@ abbrev pub box_size : (level rows : ℕ) → List ℕ
 box_size level rows =
     word_and_number (codes "\" style=\"--d:") level ++ word_and_number (codes ";--h:") rows ++ codes "\">"
 
+-- The element of a box, with its level, the number of its rows from the first to the last, and the text in it.
 abbrev pub box_element : DrawnBox → List ℕ
 box_element b = box_class b ++ box_size b.level (b.row - b.top + 1) ++ box_inner b.text ++ codes "</i>"
 
+-- Whether a box is that of an object, alive or cut off, which is drawn at every level.
 abbrev pub is_of_object : BoxKind → Bool
 is_of_object kind.Live = true
 is_of_object kind.Cut = true

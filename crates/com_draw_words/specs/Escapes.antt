@@ -13,6 +13,7 @@ words_around before n behind = word_and_number before n ++ behind
 abbrev pub is_plain : ℕ → Bool
 is_plain b = nat_le 32 b && nat_le b 126 && not (b == 38) && not (b == 60) && not (b == 62) && not (b == 34)
 
+-- Whether each byte of a text stands for itself, so that the text has no escapes.
 abbrev pub are_plain : List ℕ → Bool
 are_plain [] = true
 are_plain (b ∷ t) = is_plain b && are_plain t

@@ -26,23 +26,28 @@ label_length level words =
 abbrev pub label_width : (level words : ℕ) → ℕ
 label_width level words = drawn_level level * STEP + min (CHAR * label_length level words) LABEL_MOST + EDGE
 
+-- By what a label is found: its call, where it has one.
 abbrev pub ident_text : Option ℕ → List ℕ
 ident_text None = []
 ident_text (Some c) = word_and_number (codes " id=\"c") c ++ codes "\""
 
+-- The classes of a label that an object was made, in its apartment's hue, and that a lane is over; else none.
 abbrev pub class_text : LabelClass → List ℕ
 class_text class.Plain = []
 class_text (class.New hue) = word_and_number (codes " new k") hue
 class_text class.Over = codes " end"
 
+-- The class of a label that says something bad, and nothing for another.
 abbrev pub bad_text : Bool → List ℕ
 bad_text true = codes " bad"
 bad_text false = []
 
+-- The classes of a label: its lane, what it is about, and whether that is bad.
 abbrev pub label_classes : ℕ → Look → List ℕ
 label_classes lane look =
     word_and_number (codes " class=\"l") lane ++ class_text look.class ++ bad_text look.is_bad
 
+-- The front of a label, up to where its words begin; a level beyond those that are drawn counts as the last.
 abbrev pub label_front : (lane level : ℕ) → Look → List ℕ
 label_front lane level look =
     codes "<u" ++ ident_text look.ident ++ label_classes lane look

@@ -4,6 +4,7 @@ use Rattle.com_draw_words.specs.declared.sections.LaneKind.{LaneKind}
 use Rattle.com_draw_words.specs.declared.sections.LaneKind.TheVariants as kind
 use Rattle.com_draw_words.specs.Escapes.{word_and_number}
 
+-- The hue of a lane's name: that of the host STA, that of the MTA for the pool, and one of no apartment for a thread.
 abbrev pub lane_hue : LaneKind → ℕ
 lane_hue kind.Thread = 9
 lane_hue kind.Host = 2
@@ -25,19 +26,22 @@ lane_name_text l k =
 abbrev pub objects_name_text : ℕ → List ℕ
 objects_name_text l = word_and_number (codes "<u class=\"l") l ++ codes " k9\">objects</u></div>\n"
 
--- The front of a section, the column of a lane, and the end of the columns.
+-- The front of a section, up to its columns.
 abbrev pub section_front_text : List ℕ
 section_front_text = codes "<section>\n<div aria-hidden=\"true\">"
 
+-- The column of a lane in a section.
 abbrev pub column_text : ℕ → List ℕ
 column_text l = word_and_number (codes "<i class=\"col l") l ++ codes "\"></i>"
 
+-- What stands behind the columns of a section, before its rows.
 abbrev pub columns_end_text : List ℕ
 columns_end_text = codes "</div>\n"
 
--- What stands before the boxes at a section's end, and behind them.
+-- What stands before the boxes at a section's end.
 abbrev pub section_back_text : List ℕ
 section_back_text = codes "<div class=\"z\" aria-hidden=\"true\">"
 
+-- What stands behind the boxes at a section's end.
 abbrev pub section_end_text : List ℕ
 section_end_text = codes "</div>\n</section>\n"

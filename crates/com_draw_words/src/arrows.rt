@@ -36,6 +36,7 @@ pub struct Arrow {
     pub level: u32,
 }
 
+// Appends the class of an arrow by what it stands for.
 fn push_kind(out: &mut ByteList, kind: ArrowKind) -> Result<(), Memory>
     ensures { OnOk result (out.new ≡ out.old ++ kind_text kind) }
 {
@@ -58,6 +59,7 @@ fn push_way(out: &mut ByteList, other: u32, lane: u32) -> Result<(), Memory>
     out.push_all(b" l")
 }
 
+// Appends the two ends of an arrow, in the other lane and in its own, each at its drawn level.
 fn push_ends(out: &mut ByteList, arrow: Arrow) -> Result<(), Memory>
     ensures { OnOk result (out.new ≡ out.old ++ arrow_ends arrow) }
 {
@@ -67,6 +69,7 @@ fn push_ends(out: &mut ByteList, arrow: Arrow) -> Result<(), Memory>
     push_word_and_number(out, b";--j:", drawn_level(arrow.level))
 }
 
+// Appends the element of an arrow, whose lanes are two.
 fn push_element(out: &mut ByteList, arrow: Arrow) -> Result<(), Memory>
     ensures { OnOk result (out.new ≡ out.old ++ arrow_element arrow) }
 {

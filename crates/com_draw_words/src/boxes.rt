@@ -84,6 +84,7 @@ pub fn hue_of(apartment: u32) -> u8
     (3 + (apartment - 3) % 6) as u8
 }
 
+// Appends the class of a box by what it stands for.
 fn push_kind(out: &mut ByteList, kind: BoxKind) -> Result<(), Memory>
     ensures { OnOk result (out.new ≡ out.old ++ kind_text kind) }
 {
@@ -99,6 +100,7 @@ fn push_kind(out: &mut ByteList, kind: BoxKind) -> Result<(), Memory>
     }
 }
 
+// Appends the class of a box that began above its section, and nothing for one that begins in it.
 fn push_up(out: &mut ByteList, is_up: bool) -> Result<(), Memory>
     ensures { OnOk result (out.new ≡ out.old ++ up_text is_up) }
 {
@@ -108,6 +110,7 @@ fn push_up(out: &mut ByteList, is_up: bool) -> Result<(), Memory>
     Ok(())
 }
 
+// Appends the classes of a box that goes on below its section, and nothing for one that ends in it.
 fn push_foot(out: &mut ByteList, foot: Foot) -> Result<(), Memory>
     ensures { OnOk result (out.new ≡ out.old ++ foot_text foot) }
 {
@@ -139,6 +142,7 @@ fn push_size(out: &mut ByteList, level: u32, rows: u32) -> Result<(), Memory>
     out.push_all(b"\">")
 }
 
+// Appends the text in a box: `c` and the number of a call, `o` and that of an object, or nothing.
 fn push_inner(out: &mut ByteList, text: BoxText) -> Result<(), Memory>
     ensures { OnOk result (out.new ≡ out.old ++ box_inner text) }
 {
@@ -149,6 +153,7 @@ fn push_inner(out: &mut ByteList, text: BoxText) -> Result<(), Memory>
     }
 }
 
+// Whether a box is that of an object, alive or cut off, which is drawn at every level.
 fn is_of_object(kind: BoxKind) -> bool
     ensures { result ≡ is_of_object kind }
 {

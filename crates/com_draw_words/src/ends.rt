@@ -11,6 +11,7 @@ use crate::constants::{
 };
 use com_base::{ByteList, Memory};
 
+// Appends the front of the page's head, and the styles of its colours and of the page as a whole.
 fn push_colours(out: &mut ByteList) -> Result<(), Memory>
     ensures { OnOk result (out.new ≡ out.old ++ colours_text) }
 {
@@ -19,6 +20,7 @@ fn push_colours(out: &mut ByteList) -> Result<(), Memory>
     out.push_all(PAGE_STYLE)
 }
 
+// Appends the styles of entries, boxes, arrows and the printed page.
 fn push_shapes(out: &mut ByteList) -> Result<(), Memory>
     ensures { OnOk result (out.new ≡ out.old ++ shapes_text) }
 {

@@ -61,6 +61,7 @@ pub fn label_width(level: u32, words: &[u8]) -> u32
     drawn_level(level) * STEP + (CHAR * few).min(LABEL_MOST) + EDGE
 }
 
+// Appends by what a label is found: its call, where it has one.
 fn push_ident(out: &mut ByteList, ident: Option<u32>) -> Result<(), Memory>
     ensures { OnOk result (out.new ≡ out.old ++ ident_text ident) }
 {
@@ -73,6 +74,7 @@ fn push_ident(out: &mut ByteList, ident: Option<u32>) -> Result<(), Memory>
     }
 }
 
+// Appends the class of an object that was made, in its apartment's hue, or of a lane that is over.
 fn push_class(out: &mut ByteList, class: LabelClass) -> Result<(), Memory>
     ensures { OnOk result (out.new ≡ out.old ++ class_text class) }
 {
@@ -83,6 +85,7 @@ fn push_class(out: &mut ByteList, class: LabelClass) -> Result<(), Memory>
     }
 }
 
+// Appends the class of a label that says something bad, and nothing for another.
 fn push_bad(out: &mut ByteList, is_bad: bool) -> Result<(), Memory>
     ensures { OnOk result (out.new ≡ out.old ++ bad_text is_bad) }
 {
@@ -92,6 +95,7 @@ fn push_bad(out: &mut ByteList, is_bad: bool) -> Result<(), Memory>
     Ok(())
 }
 
+// Appends the classes of a label: its lane, what it is about, and whether that is bad.
 fn push_classes(out: &mut ByteList, lane: u32, look: Look) -> Result<(), Memory>
     ensures { OnOk result (out.new ≡ out.old ++ label_classes lane look) }
 {
@@ -100,6 +104,7 @@ fn push_classes(out: &mut ByteList, lane: u32, look: Look) -> Result<(), Memory>
     push_bad(out, look.is_bad)
 }
 
+// Appends the front of a label, up to where its words begin.
 fn push_front(out: &mut ByteList, lane: u32, level: u32, look: Look) -> Result<(), Memory>
     ensures { OnOk result (out.new ≡ out.old ++ label_front lane level look) }
 {
@@ -110,6 +115,7 @@ fn push_front(out: &mut ByteList, lane: u32, level: u32, look: Look) -> Result<(
     out.push_all(b"\">")
 }
 
+// Appends a label's words, escaped; how far a level is beyond those drawn stands before them.
 fn push_words(out: &mut ByteList, level: u32, words: &[u8]) -> Result<(), Memory>
     ensures { OnOk result (out.new ≡ out.old ++ label_words level words.now) }
 {

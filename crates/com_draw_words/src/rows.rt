@@ -18,6 +18,7 @@ pub enum Mark {
     Tick,
 }
 
+// Appends by what an entry is found: its place.
 fn push_ident(out: &mut ByteList, place: u64) -> Result<(), Memory>
     ensures { OnOk result (out.new ≡ out.old ++ entry_ident place) }
 {
@@ -28,6 +29,7 @@ fn push_ident(out: &mut ByteList, place: u64) -> Result<(), Memory>
     out.push_all(b"\"")
 }
 
+// Appends the call of an entry, where it has one.
 fn push_call(out: &mut ByteList, call: Option<u32>) -> Result<(), Memory>
     ensures { OnOk result (out.new ≡ out.old ++ entry_call call) }
 {
@@ -37,6 +39,7 @@ fn push_call(out: &mut ByteList, call: Option<u32>) -> Result<(), Memory>
     }
 }
 
+// Appends the class of a row where its entry says something bad or the clock moves; else none.
 fn push_mark(out: &mut ByteList, mark: Mark) -> Result<(), Memory>
     ensures { OnOk result (out.new ≡ out.old ++ mark_text mark) }
 {
@@ -47,6 +50,7 @@ fn push_mark(out: &mut ByteList, mark: Mark) -> Result<(), Memory>
     }
 }
 
+// Appends the entry's line as the title of its row, escaped.
 fn push_title(out: &mut ByteList, title: &[u8]) -> Result<(), Memory>
     ensures { OnOk result (out.new ≡ out.old ++ entry_title title.now) }
 {
@@ -55,6 +59,7 @@ fn push_title(out: &mut ByteList, title: &[u8]) -> Result<(), Memory>
     out.push_all(b"\">")
 }
 
+// Appends the entry's place as it is shown, up to where the story begins.
 fn push_place(out: &mut ByteList, place: u64) -> Result<(), Memory>
     ensures { OnOk result (out.new ≡ out.old ++ entry_number place) }
 {

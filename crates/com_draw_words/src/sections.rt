@@ -18,6 +18,7 @@ pub enum LaneKind {
     Pool,
 }
 
+// The hue of a lane's name: that of the host STA, of the MTA for the pool, of none for a thread.
 fn lane_hue(kind: LaneKind) -> u32
     ensures { result ≡ lane_hue kind }
 {
@@ -28,6 +29,7 @@ fn lane_hue(kind: LaneKind) -> u32
     }
 }
 
+// Appends what a lane is, behind its number.
 fn push_words(out: &mut ByteList, kind: LaneKind) -> Result<(), Memory>
     ensures { OnOk result (out.new ≡ out.old ++ lane_words kind) }
 {

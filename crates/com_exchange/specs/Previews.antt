@@ -13,9 +13,11 @@ pub record IsOutgoing (owns : ℕ → ℕ → Bool) (b : Books) (a : ℕ) (x : O
   pub owned : owns x.object a ≡ x.is_owned
   pub connected : b.live x.object ≡ x.is_connected
 
+-- The reference that the row is of.
 abbrev pub reference_of : Outgoing → RefValue
 reference_of x = record { object = x.object; iface = x.iface }
 
+-- The public references that a packet holds.
 abbrev pub refs_in : Packet → ℕ
 refs_in p = p.refs
 

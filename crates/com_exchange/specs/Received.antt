@@ -25,6 +25,7 @@ use Rattle.com_exchange.specs.declared.receiving.RequestError.TheVariants as err
 abbrev pub reference_in_fields : StdFields → RefValue
 reference_in_fields f = record { object = f.ipid.data1; iface = f.ipid.data2 }
 
+-- The number of the packet: the last eight bytes of the IPID, the low byte first.
 abbrev pub packet_in_fields : StdFields → ℕ
 packet_in_fields f = from_le_bytes w64 f.ipid.data4
 
@@ -50,6 +51,7 @@ packet_in (wire.Ref (Some f)) = packet_in_fields f ∷ []
 abbrev pub values_in : List Wire → List Value
 values_in ws = map value_in ws
 
+-- The numbers of the packets that carried references, in their order. Null has none.
 abbrev pub packets_in : List Wire → List ℕ
 packets_in [] = []
 packets_in (w ∷ ws) = packet_in w ++ packets_in ws
@@ -63,6 +65,8 @@ abbrev pub with_header : List Kind → List ℕ → Result Guid OrpcFault → Re
 with_header kinds rest (Err f) = Err (error.Header f)
 with_header kinds rest (Ok cause) = with_wires cause (args_of kinds rest)
 
+-- What bytes say as a request whose arguments have these kinds: the 32 bytes of the header, and all of the rest
+-- as the arguments.
 abbrev pub request_in : List Kind → List ℕ → Result Request RequestError
 request_in kinds bytes = with_header kinds (drop 32 bytes) (request_of bytes)
 

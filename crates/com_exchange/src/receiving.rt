@@ -61,6 +61,8 @@ fn append_packet(packets: &mut Vec<u64>, wire: &Wire) -> Result<(), Memory>
     }
 }
 
+// The value that travelled so: a reference is the one that its packet names. The only error is want
+// of memory.
 fn value_in(wire: &Wire) -> Result<Value, Memory>
     ensures { IfOk result (λ value. value ≡ value_in wire.now) }
 {
@@ -75,6 +77,7 @@ fn value_in(wire: &Wire) -> Result<Value, Memory>
     })
 }
 
+// The values that travelled so, in their order. The only error is want of memory.
 #[tactic(auto, using(crate::proofs::Receivings::values_more, crate::proofs::Receivings::all_values))]
 fn values_in(alloc: Global, wires: &[Wire]) -> Result<Rows<Value>, Memory>
     ensures { IfOk result (λ values. values ≡ values_in wires.now) }
@@ -86,6 +89,8 @@ fn values_in(alloc: Global, wires: &[Wire]) -> Result<Rows<Value>, Memory>
     Ok(Rows::from_vec(values))
 }
 
+// The numbers of the packets that carry references, in their order. The only error is want of
+// memory.
 #[tactic(auto, using(crate::proofs::Receivings::packets_more, crate::proofs::Receivings::all_packets))]
 fn packets_in(alloc: Global, wires: &[Wire]) -> Result<Rows<u64>, Memory>
     ensures { IfOk result (λ packets. packets ≡ packets_in wires.now) }

@@ -18,6 +18,7 @@ use std::alloc::{AllocError, Global};
 // The referent of a stream's first reference that is not null. They count up by the size of a pointer.
 const FIRST_REFERENT: u32 = 0x0002_0000;
 
+// How far a referent is from the one before it.
 const STEP: u32 = 4;
 
 // How many bytes the OBJREF of a reference has.
@@ -73,6 +74,7 @@ fn put_packet(fields: &StdFields, referent: u32, out: &mut ByteList) -> Result<(
     encode(fields, out)
 }
 
+// Where a value may begin: at the multiples of this.
 fn align_of_value(value: &Value) -> usize
     ensures value { (packet : Option StdFields) → result ≡ align_of_value (wire_of value.now packet) }
     ensures some { 0 < result }

@@ -117,7 +117,8 @@ impl Filter {
 }
 
 impl Rule {
-    // The answers of this rule alone, where it matches.
+    // The answer of a rule for incoming calls to a call of this type, after so many milliseconds,
+    // where it is for the type and its time has come; else None.
     fn incoming(&self, call_type: u8, elapsed: u64) -> Option<Verdict>
         ensures { result ≡ incoming_by self.now call_type elapsed }
     {
@@ -134,6 +135,8 @@ impl Rule {
         }
     }
 
+    // The answer of a rule for retries to a caller that got this verdict, so many milliseconds
+    // after its call, where it is for this verdict and its time has come; else None.
     fn retry(&self, verdict: Verdict, elapsed: u64) -> Option<i64>
         ensures { result ≡ retry_by self.now verdict elapsed }
     {
@@ -150,6 +153,8 @@ impl Rule {
         }
     }
 
+    // The answer of a rule for pending words, so many milliseconds after the call, where its time
+    // has come; else None.
     fn pending(&self, elapsed: u64) -> Option<u8>
         ensures { result ≡ pending_by self.now elapsed }
     {
@@ -164,6 +169,7 @@ impl Rule {
     }
 }
 
+// Whether a rule for this call type, or for any, is for the type that is asked about.
 fn is_for_type(wanted: Option<u8>, call_type: u8) -> bool
     ensures { result ≡ is_for_type wanted call_type }
 {
@@ -173,6 +179,7 @@ fn is_for_type(wanted: Option<u8>, call_type: u8) -> bool
     }
 }
 
+// Whether a rule for this verdict, or for any, is for the verdict that is asked about.
 fn is_for_verdict(wanted: Option<Verdict>, verdict: Verdict) -> bool
     ensures { result ≡ is_for_verdict wanted verdict }
 {
@@ -182,6 +189,7 @@ fn is_for_verdict(wanted: Option<Verdict>, verdict: Verdict) -> bool
     }
 }
 
+// Whether two answers to an incoming call are equal.
 fn same_verdict(left: Verdict, right: Verdict) -> bool
     ensures { result ≡ same_verdict left right }
 {

@@ -16,6 +16,7 @@ fn is_iid(iid: &Guid, wanted: &Guid) -> bool
     same_guid(iid, wanted)
 }
 
+// Whether two kinds are equal; those of references are where they name one interface.
 fn same_kind(left: Kind, right: Kind) -> bool
     ensures { IsTrue result ↔ (left ≡ right) }
 {
@@ -35,6 +36,7 @@ fn are_kinds(kinds: &[Kind], wanted: &[Kind]) -> bool
     }
 }
 
+// Whether a method's result is of this kind, or is missing where no kind is wanted.
 fn is_result(kind: Option<Kind>, wanted: Option<Kind>) -> bool
     ensures { IsTrue result ↔ (kind ≡ wanted) }
 {
@@ -62,12 +64,14 @@ fn is_named(interface: &Interface, name: &[u8], iid: &Guid) -> bool
     interface.name.as_slice() == name && is_iid(&interface.iid, iid)
 }
 
+// Whether an interface is IUnknown: its name, its IID, and no methods.
 fn is_iunknown(interface: &Interface) -> bool
     ensures { IsTrue result ↔ (interface.now ≡ iunknown) }
 {
     is_named(interface, b"IUnknown", &IID_IUNKNOWN) && interface.methods.len() == 0
 }
 
+// Whether an interface is ICounter: `add` takes and gives a number, `get` only gives one.
 fn is_icounter(interface: &Interface) -> bool
     ensures { IsTrue result ↔ (interface.now ≡ icounter) }
 {
@@ -79,6 +83,7 @@ fn is_icounter(interface: &Interface) -> bool
         && is_method(get, b"get", &[], Some(Kind::Int))
 }
 
+// Whether an interface is IRelay: `set` takes an ICounter, `forward` takes and gives a number.
 fn is_irelay(interface: &Interface) -> bool
     ensures { IsTrue result ↔ (interface.now ≡ irelay) }
 {
@@ -90,6 +95,7 @@ fn is_irelay(interface: &Interface) -> bool
         && is_method(forward, b"forward", &[Kind::Int], Some(Kind::Int))
 }
 
+// Whether an interface is ILatch: `set` takes and gives nothing, `test` only gives a Boolean.
 fn is_ilatch(interface: &Interface) -> bool
     ensures { IsTrue result ↔ (interface.now ≡ ilatch) }
 {

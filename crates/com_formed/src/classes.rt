@@ -51,12 +51,14 @@ fn is_method_body(scenario: &Scenario, at: &Standing, body: &MethodBody) -> bool
         && has_method(&scenario.classes, body.iface, body.method)
 }
 
+// Whether two bodies are of one method of one interface.
 fn same_body(left: &MethodBody, right: &MethodBody) -> bool
     ensures { result ≡ same_body left.now right.now }
 {
     left.iface == right.iface && left.method == right.method
 }
 
+// Whether none of the other bodies is of the method that this one is of.
 fn is_body_new(body: &MethodBody, others: &[MethodBody]) -> bool
     ensures { IsTrue result ↔ All (λ other. same_body body.now other ≡ false) others.now }
 {
@@ -131,6 +133,7 @@ fn are_classes(scenario: &Scenario, index: u32) -> bool
     is_class(scenario, index + 1, class) && are_classes(scenario, index + 1)
 }
 
+// Whether two classes have one name or one CLSID.
 fn same_class(left: &Class, right: &Class) -> bool
     ensures { result ≡ same_class left.now right.now }
 {

@@ -32,6 +32,7 @@ fn is_retry_answer(answer: i64) -> bool
     -1 <= answer && answer <= LAST_MS as i64
 }
 
+// Whether the time of a rule is at most `LAST_MS` milliseconds.
 fn is_time(ms: u32) -> bool
     ensures { IsTrue result ↔ (ms ≤ LAST_MS) }
 {
@@ -53,6 +54,7 @@ fn is_rule(rule: &Rule) -> bool
     }
 }
 
+// Whether a filter has at most `RULE_LIMIT` rules, and each of them keeps its ranges.
 fn is_filter(filter: &Filter) -> bool
     ensures { IsTrue result ↔ IsFilter filter.now }
 {

@@ -48,12 +48,14 @@ fn is_method(number: u16, method: &Method) -> bool
         && is_result_by(number, method.result)
 }
 
+// Whether two methods have one name, whatever their parameters and results.
 fn same_method(left: &Method, right: &Method) -> bool
     ensures { result ≡ same_method left.now right.now }
 {
     left.name.as_slice() == right.name.as_slice()
 }
 
+// Whether none of the other methods has the name of this one.
 fn is_method_new(method: &Method, others: &[Method]) -> bool
     ensures { IsTrue result ↔ All (λ other. same_method method.now other ≡ false) others.now }
 {
@@ -134,6 +136,7 @@ fn are_allowed(classes: &Classes, number: u16) -> bool
     is_allowed(interface) && are_allowed(classes, number + 1)
 }
 
+// Whether two interfaces have one name or one IID.
 fn same_interface(left: &Interface, right: &Interface) -> bool
     ensures { result ≡ same_interface left.now right.now }
 {

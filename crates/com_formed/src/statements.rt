@@ -42,6 +42,7 @@ fn is_class_named(at: &Standing, class: Asked) -> bool
     }
 }
 
+// Whether a statement may name an interface: by the number of a declared one, or by any IID.
 fn is_interface_named(scenario: &Scenario, iface: Asked) -> bool
     requires { length scenario.now.classes.interfaces ≤ INTERFACE_LIMIT }
     ensures { IsTrue result ↔ IsInterfaceNamed scenario.now iface }
@@ -52,6 +53,7 @@ fn is_interface_named(scenario: &Scenario, iface: Asked) -> bool
     }
 }
 
+// Whether a place may stand here: a slot everywhere, a link where the objects keep links.
 fn is_place_in(at: &Standing, place: Place) -> bool
     ensures { IsTrue result ↔ IsPlaceIn at.now place }
 {
@@ -73,6 +75,7 @@ fn fits_kind(kind: Kind, arg: &Arg) -> bool
     }
 }
 
+// Whether there are as many arguments as parameters, and each is of its parameter's sort.
 fn fit_kinds(kinds: &[Kind], args: &[Arg]) -> bool
     ensures { IsTrue result ↔ FitKinds kinds.now args.now }
 {
@@ -115,6 +118,8 @@ fn is_bare(args: &[Arg], to: Destination) -> bool
     args.is_empty() && matches!(to, Destination::Nowhere)
 }
 
+// Whether a call may stand: on a declared interface, it has neither arguments nor a destination, or
+// those of a method of that interface.
 fn is_call(scenario: &Scenario, iface: u16, method: u16, args: &[Arg], to: Destination) -> bool
     ensures { IsTrue result ↔ IsCall scenario.now iface method args.now to }
 {
@@ -122,6 +127,7 @@ fn is_call(scenario: &Scenario, iface: u16, method: u16, args: &[Arg], to: Desti
         && (is_bare(args, to) || fits_method(scenario.classes.method(iface, method), args, to))
 }
 
+// Whether a body may give this: nothing, a slot, a register, or a value that has a literal.
 fn is_given(given: &Given) -> bool
     ensures { IsTrue result ↔ IsGivenValue given.now }
 {
@@ -131,6 +137,7 @@ fn is_given(given: &Given) -> bool
     }
 }
 
+// Whether `setfilter` may name this: no filter, or a declared one by its number from 1.
 fn is_filter_named(scenario: &Scenario, filter: Option<u32>) -> bool
     ensures { IsTrue result ↔ IsFilterNamed scenario.now filter }
 {

@@ -13,6 +13,7 @@ seeded number = pcg32_of_seed (pcg32_seed 16 number)
 unfoldable pub word : Lcg → ℕ
 word g = (pcg32 g).0
 
+-- The generator as it stands once its next word was drawn.
 unfoldable pub behind : Lcg → Lcg
 behind g = (pcg32 g).1
 
@@ -48,6 +49,7 @@ unfoldable pub behind_rounds : ℕ → Lcg → Lcg
 behind_rounds zero g = g
 behind_rounds (suc n) g = behind_round (behind_rounds n g)
 
+-- The text of so many rounds, from a generator on.
 unfoldable pub rounds_text : ℕ → Lcg → List ℕ
 rounds_text zero g = []
 rounds_text (suc n) g = rounds_text n g ++ round_text (behind_rounds n g)
@@ -64,6 +66,7 @@ unfoldable pub behind_scripts : ℕ → Lcg → Lcg
 behind_scripts zero g = g
 behind_scripts (suc n) g = behind_script (behind_scripts n g)
 
+-- The text of so many scripts, from a generator on.
 unfoldable pub scripts_text : ℕ → Lcg → List ℕ
 scripts_text zero g = []
 scripts_text (suc n) g = scripts_text n g ++ script_text (behind_scripts n g)

@@ -20,8 +20,8 @@ use std::alloc::Global;
 // How many scripts a text has.
 const SCRIPTS: u32 = 8;
 
-// How many objects a script makes, calls and releases, one after another.
-const ROUNDS: u32 = 400;
+/// How many objects a script makes, calls and releases, one after another.
+pub const ROUNDS: u32 = 400;
 
 // Room for a text in bytes, more than one takes; nothing rests on it but speed.
 const ROOM: usize = 400_000;
@@ -129,6 +129,7 @@ fn push_round(words: &mut Lcg64Xsh32, text: &mut ByteList) -> Result<(), Memory>
     text.push_all(b" -> r1\nrelease s0\n")
 }
 
+// Appends a number in decimal digits.
 fn push_number(number: u32, text: &mut ByteList) -> Result<(), Memory>
     ensures { OnOk result (text.new ≡ text.old ++ decimal number) }
 {

@@ -23,7 +23,7 @@ pub struct Git {
 }
 
 impl Model for Git {
-    ghost use Rattle.std.specs.Prelude.{◌≡◌};
+    ghost use Rattle.std.specs.Prelude.{◌≡◌, ◌-◌, ◌^◌};
     ghost use Rattle.com_git.specs.Table.{Table};
 
     ghost Value = { Table };
@@ -33,7 +33,7 @@ impl Model for Git {
       spare = g.slots.spare;
     } };
 
-    ghost invariant = { λ g. g.slots.limit ≡ 4294967295 };
+    ghost invariant = { λ g. g.slots.limit ≡ 2 ^ 32 - 1 };
 }
 
 impl Git {

@@ -5,7 +5,7 @@
 #![tactic(auto)]
 
 ghost use Rattle.std.specs.Prelude.{◌≡◌, ◌+◌, ◌-◌, ◌<◌, ◌≤◌, ℕ, [], ◌∷◌, ◌++◌, length, slice_index};
-ghost use Rattle.std.specs.Prelude.{OnOk, OnErr, IsOk, IsTrue, ◌↔◌};
+ghost use Rattle.std.specs.Prelude.{OnOk, OnErr, IsOk, IsTrue, ◌↔◌, ◌^◌};
 ghost use Rattle.com_keyed.specs.Indices.{IsLatest, reach};
 ghost use Rattle.com_keyed.specs.Linked.{IsLinked, LeadsOn};
 
@@ -160,21 +160,20 @@ impl Chains {
     }
 
     /// Makes room for `n` more indices.
-    pub fn reserve(&mut self, n: u32) -> Result<(), Memory>
+    pub fn reserve(&mut self, n: usize) -> Result<(), Memory>
         ensures room { OnOk result (n ≤ self.new.spare) }
         ensures keys { self.new.keys ≡ self.old.keys }
         ensures spare { self.old.spare ≤ self.new.spare }
         ensures err { OnErr result (self.new ≡ self.old) }
         ensures succeeds { n ≤ self.old.spare → IsOk result }
     {
-        let more = n as usize;
-        if more <= self.heads.len() - self.keys.len() {
+        if n <= self.heads.len() - self.keys.len() {
             return Ok(());
         }
         let buckets = self
             .keys
             .len()
-            .saturating_add(more)
+            .saturating_add(n)
             .max(self.heads.len().saturating_mul(2));
         self.grow(buckets)
     }
@@ -183,6 +182,7 @@ impl Chains {
     fn grow(&mut self, buckets: usize) -> Result<(), Memory>
         requires more { length self.old.keys + self.old.spare < buckets }
         ensures ok { OnOk result (length self.old.keys + self.new.spare ≡ buckets) }
+        ensures few { OnOk result (buckets < 2 ^ 63) }
         ensures keys { self.new.keys ≡ self.old.keys }
         ensures err { OnErr result (self.new ≡ self.old) }
     {

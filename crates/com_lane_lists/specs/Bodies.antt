@@ -10,6 +10,7 @@ bodies_of [] = []
 bodies_of (Enters c o a ∷ os) = record { call = c; object = o; apartment = a } ∷ bodies_of os
 bodies_of (_ ∷ os) = bodies_of os
 
+-- Whether a pump is all that is open in a lane, so that a body which has just left counts for its bound.
 abbrev pub is_one_pump : List Opener → Bool
 is_one_pump (Pumps bound ∷ []) = true
 is_one_pump _ = false

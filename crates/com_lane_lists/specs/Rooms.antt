@@ -32,9 +32,11 @@ pub record StaRows : Type 0 where
   pub made : ℕ
   pub over : ℕ
 
+-- The openers of each lane, without the room.
 abbrev pub openers_in : List OpenerRows → List (List Opener)
 openers_in t = map (λ (r : OpenerRows). r.openers) t
 
+-- The words and marks of each lane, without the room.
 abbrev pub mail_in : List MailRows → List Mail
 mail_in t = map (λ (r : MailRows). r.mail) t
 
@@ -45,9 +47,11 @@ numbers_in t = map (λ (r : Roomed ℕ). r.rows) t
 abbrev pub no_opener : OpenerRows
 no_opener = record { openers = []; room = 1; bodies = 1; waits = 1 }
 
+-- A lane without a row has no word and no mark, and takes one of each.
 abbrev pub no_word : MailRows
 no_word = record { mail = no_mail; words = 1; marks = 1 }
 
+-- A lane without a row made no apartment, and one has room.
 abbrev pub no_number : Roomed ℕ
 no_number = record { rows = []; room = 1 }
 
@@ -60,9 +64,10 @@ HasSlot r = (length r.openers < r.room) × (length (bodies_of r.openers) < r.bod
 abbrev pub HasRow : {X : Type 0} → Roomed X → Type 0
 HasRow r = length r.rows < r.room
 
--- One word more has room, and one mark more.
+-- One word more has room.
 abbrev pub HasWord : MailRows → Type 0
 HasWord r = length r.mail.words < r.words
 
+-- One mark more has room: that of a call which is asked about a word for the first time.
 abbrev pub HasMark : MailRows → Type 0
 HasMark r = length r.mail.marks < r.marks

@@ -67,8 +67,8 @@ impl Marks {
     }
 }
 
-#[tactic(auto, using(crate::proofs::MarksLeft::mark_here, crate::proofs::MarksLeft::mark_next, crate::proofs::MarksLeft::mark_end))]
 // The number of the first mark of a call, or 0.
+#[tactic(auto, using(crate::proofs::MarksLeft::mark_here, crate::proofs::MarksLeft::mark_next, crate::proofs::MarksLeft::mark_end))]
 fn mark_in(marks: &VecDeque<Mark>, call: u32) -> u64
     ensures { result ≡ mark_of marks.now.items call }
 {

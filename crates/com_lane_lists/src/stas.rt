@@ -187,8 +187,8 @@ fn push_at(lists: &mut Vec<Numbers>, lane: u32, number: u32)
     }
 }
 
-#[tactic(auto, using(crate::proofs::StasKept::gone_first_le, crate::proofs::StasKept::gone_first_more, crate::proofs::StasKept::gone_first_here))]
 // The first index from this one on whose apartment has not ended, or the length. All before it have ended.
+#[tactic(auto, using(crate::proofs::StasKept::gone_first_le, crate::proofs::StasKept::gone_first_more, crate::proofs::StasKept::gone_first_here))]
 fn oldest_from(rows: &[Sta], from: usize) -> usize
     requires { from ≤ gone_first rows.now }
     ensures { result ≡ gone_first rows.now }

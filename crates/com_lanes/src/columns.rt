@@ -63,8 +63,8 @@ pub(crate) fn pop_opener(column: &mut Vec<Openers>, lane: u32)
     }
 }
 
-#[tactic(auto, using(crate::proofs::Rows::set_own, crate::proofs::Rows::left_one, crate::proofs::Rows::left_other))]
 // A body has left a lane in which these are open, which counts where a pump alone is.
+#[tactic(auto, using(crate::proofs::Rows::set_own, crate::proofs::Rows::left_one, crate::proofs::Rows::left_other))]
 pub(crate) fn count_left(column: &mut Vec<u64>, openers: &Vec<Openers>, lane: u32, call: u32)
     requires { slice_index_or column.old.items lane 0 + 1 < 2 ^ 64 }
     ensures { column.new.items ≡ slice_set column.old.items lane

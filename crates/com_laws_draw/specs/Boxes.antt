@@ -42,6 +42,7 @@ pub data LieWell (a b : Placed) : Type 0 where
 
 -- ---- many boxes
 
+-- The property holds of each item of a list.
 abbrev pub Each : {X : Type 0} → (X → Type 0) → List X → Type 0
 Each P [] = Unit {0}
 Each P (x ∷ xs) = P x × Each P xs
@@ -58,6 +59,7 @@ texts (a ∷ bs) = box_text a.box ++ texts bs
 
 -- ---- the boxes of a lane
 
+-- A box in the section of this row.
 abbrev pub placed : Start → DrawnBox → Placed
 placed here b = record { section = here.section; box = b }
 
@@ -71,6 +73,7 @@ abbrev pub box_of : Start → (lane depth : ℕ) → Option Opening → List Pla
 box_of here l d None = []
 box_of here l d (Some o) = placed here (opening_box here l foot.Inner d o) ∷ []
 
+-- The box of what is innermost of all that is open in a lane; none where nothing is.
 abbrev pub box_of_innermost : Start → (lane : ℕ) → List Opening → List Placed
 box_of_innermost here l os = box_of here l (length os) (innermost os)
 

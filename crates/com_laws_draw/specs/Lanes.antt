@@ -30,10 +30,12 @@ use Rattle.com_laws_draw.specs.Boxes.{Placed, box_of_innermost, boxes_below}
 
 -- ---- what stands open
 
+-- All that is open in a lane, the outermost first; nothing where no lane has the number.
 abbrev pub openings_of : Option Lane → List Opening
 openings_of None = []
 openings_of (Some row) = row.openings
 
+-- All that is open in the lane with a number, the outermost first.
 abbrev pub open_in : State → (lane : ℕ) → List Opening
 open_in b l = openings_of (lane_at b.lanes l)
 

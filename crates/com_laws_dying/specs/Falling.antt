@@ -11,6 +11,7 @@ use Rattle.com_model.specs.State.{State, openers_in, objects_in, ground_in, scen
 use Rattle.com_model.specs.State.{after}
 use Rattle.com_objects.specs.Settled.{DieBut, Rise, Falls, without}
 
+-- How many places, packets and cookies hold an object; of one that is not connected, its direct places alone.
 abbrev pub holders_of : Scenario → State → ℕ → ℕ
 holders_of s st o = holders_in s (ground_in s st) (scene_in st) (books_in st) o
 

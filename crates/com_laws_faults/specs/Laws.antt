@@ -44,15 +44,16 @@ IsBarred read = (text one other : List ℕ) (f : Fault) (s : Scenario) → IsApa
 
 -- ---- what the laws do not say
 
--- The same of texts whose end may cut a word.
+-- A fault that more text cannot mend stays whatever follows, also where the end of its text cuts a word.
 abbrev pub StaysCut : Reader → Type 0
 StaysCut read = (text rest : List ℕ) (f : Fault) → read text ≡ Err f → (EndsEarly text f → ⊥) → read (text ++ rest) ≡ Err f
 
--- The first of these of all faults, also of those of skips.
+-- Where a beginning of a text ends between words, and the fault of the text stands before that end, it is that of the
+-- beginning: asked of all faults, also of those of skips, which `IsKnown` leaves out.
 abbrev pub IsKnownAll : Reader → Type 0
 IsKnownAll read = (text rest : List ℕ) (f : Fault) → EndsBetween text → IsBefore (end_of text).line (end_of text).column f → read (text ++ rest) ≡ Err f → read text ≡ Err f
 
--- The same of the faults which say that a text ends too early.
+-- Where no word is cut, a fault stays whatever follows, also one which says that its text ends too early.
 abbrev pub StaysEarly : Reader → Type 0
 StaysEarly read = (text rest : List ℕ) (f : Fault) → CutsNoWord text rest → read text ≡ Err f → read (text ++ rest) ≡ Err f
 

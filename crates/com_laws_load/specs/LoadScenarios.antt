@@ -17,6 +17,7 @@ use Rattle.com_classes.specs.declared.classes.Class.{Class}
 use Rattle.com_classes.specs.declared.classes.ThreadingModel.{ThreadingModel}
 use Rattle.com_classes.specs.declared.classes.ThreadingModel.TheVariants as models
 use Rattle.com_model.specs.declared.scenario.Scenario.{Scenario}
+use Rattle.com_gen.specs.declared.TheConstants.{ROUNDS}
 use Rattle.com_gen.specs.Loads.{seeded, word, behind, behind_rounds, behind_scripts}
 
 -- A built-in counter class.
@@ -72,7 +73,7 @@ rounds (suc n) g = rounds n g ++ round_from (behind_rounds n g)
 
 -- A script: the apartment and 400 rounds.
 abbrev pub script : Lcg → List Stmt
-script g = stmts.Init (mode_of (word g)) ∷ rounds 400 (behind g)
+script g = stmts.Init (mode_of (word g)) ∷ rounds ROUNDS (behind g)
 
 -- So many scripts from a generator on.
 unfoldable pub scripts : ℕ → Lcg → List (List Stmt)

@@ -9,6 +9,7 @@ use Rattle.orpc.specs.declared.OrpcFault.{OrpcFault}
 use Rattle.orpc.specs.Headers.{reply_of}
 use Rattle.ndr_args.specs.declared.wire.Wire.{Wire}
 use Rattle.ndr_args.specs.declared.wire.ArgFault.{ArgFault}
+use Rattle.ndr_args.specs.declared.wire.TheConstants.ArgFault.{TRAILING}
 use Rattle.ndr_args.specs.Grammar.{gap}
 use Rattle.ndr_args.specs.Reading.{fault, short, u32_field, zeros_at, args_at}
 use Rattle.com_model.specs.Answers.{hresult, is_failure}
@@ -34,12 +35,12 @@ abbrev pub kinds_before : Option Kind → HResult → List Kind
 kinds_before None hr = []
 kinds_before (Some k) hr = if is_failure hr then [] else k ∷ []
 
--- Values of these kinds, padding to a multiple of four, and four bytes. Where fewer are left than four that is
--- fault 1, where more are it is fault 6, behind the padding.
+-- Values of these kinds, padding to a multiple of four, and four bytes. Where fewer are left than four a field is
+-- not whole, and where more are left that is the fault TRAILING, behind the padding.
 abbrev pub ends_with_four : List ℕ → (end : ℕ) → List Wire → Result (List Wire) ArgFault
 ends_with_four bytes end ws =
     if nat_lt (length bytes) (end + 4) then Err (short bytes)
-    else if nat_lt (end + 4) (length bytes) then Err (fault 6 end)
+    else if nat_lt (end + 4) (length bytes) then Err (fault TRAILING end)
     else Ok ws
 
 unfoldable pub result_at : List Kind → List ℕ → Result (List Wire) ArgFault

@@ -20,5 +20,6 @@ pub record IsWord (w : WordAt) : Type 0 where
   pub some : 1 ≤ length w.bytes
   pub literal : IsLiteral w.sort w.bytes
 
+-- each word of a line has a byte, and each text literal characters alone between its marks
 abbrev pub IsLine : LineAt → Type 0
 IsLine l = All IsWord l.words

@@ -18,30 +18,37 @@ use Rattle.com_body.specs.declared.operands.Destination.TheVariants as destinati
 
 -- ---- the HRESULTs, of which the runtime names the first two alone
 
+-- S_OK: the source did what it was asked.
 abbrev pub ok : HResult
 ok = record { 0 = 0 }
 
+-- E_POINTER: the sink that `advise` was given is null.
 abbrev pub e_pointer : HResult
 e_pointer = record { 0 = 0x80004003 }
 
--- CONNECT_E_NOCONNECTION: no sink has the cookie. CONNECT_E_ADVISELIMIT: there are four sinks.
+-- CONNECT_E_NOCONNECTION: no sink has the cookie.
 abbrev pub no_connection : HResult
 no_connection = record { 0 = 0x80040200 }
 
+-- CONNECT_E_ADVISELIMIT: there are four sinks.
 abbrev pub advise_limit : HResult
 advise_limit = record { 0 = 0x80040201 }
 
 -- ---- words for statements
 
+-- A whole number as an operand.
 abbrev pub int : ℕ → Op
 int n = op.Literal (value.Int (pos n))
 
+-- A register as an operand, by its number.
 abbrev pub register : ℕ → Op
 register r = op.Register r
 
+-- A statement that ends the body with this HRESULT, and with what is given as its result.
 abbrev pub leave_with : HResult → Given → Stmt
 leave_with hr g = stmt.Leave (code.Literal hr) g
 
+-- A statement that ends the body with S_OK, and with the value of this register as its result.
 abbrev pub leave_register : ℕ → Stmt
 leave_register r = leave_with ok (given.Op (register r))
 
@@ -101,9 +108,13 @@ send_event =
     ∷ stmt.Add 6 (int 1)
     ∷ stmt.Call 0 1 0 (arg.Op (register 0) ∷ []) (destination.Register 7) ∷ []
 
+-- One round: the first of the four places whose cookie is above the one that was reached. Where there is none, or
+-- its cookie is above the last one, the body leaves with the number of events. Else its sink gets the event.
 abbrev pub event_round : List Stmt
 event_round = look_at 0 ++ (look_at 1 ++ (look_at 2 ++ (look_at 3 ++ (leave_register 6 ∷ send_event))))
 
+-- The last cookie is kept; no cookie is reached yet, and no event is sent. Then come four rounds, as many as there
+-- may be sinks, and the body leaves with the number of events.
 abbrev pub fire_body : List Stmt
 fire_body =
     stmt.Load 4 4 ∷ stmt.Set 5 (int 0) ∷ stmt.Set 6 (int 0)

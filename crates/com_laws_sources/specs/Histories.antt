@@ -33,14 +33,17 @@ abbrev pub enter_values : Deed → ℕ → List Value → List Value
 enter_values (deed.Enter d o a t vs) c before = if d == c then vs else before
 enter_values _ c before = before
 
+-- The values with which a call was entered in a history, and none where it was not entered.
 abbrev pub given_to : List Entry → ℕ → List Value
 given_to [] c = []
 given_to (e ∷ h) c = enter_values e.deed c (given_to h c)
 
+-- The reference that stands first, which `advise` takes as a sink. None where it is null, or there is none.
 abbrev pub first_reference : List Value → Option RefValue
 first_reference (value.Ref held ∷ vs) = held
 first_reference _ = None
 
+-- The number of the first value, which `unadvise` takes as a cookie. It is 0 where there is none.
 abbrev pub first_number : List Value → ℤ
 first_number [] = pos 0
 first_number (v ∷ vs) = number_in v
@@ -52,15 +55,19 @@ is_on (Some x) o i m = is_number o x.object && (x.iface == i && x.method == m)
 
 -- ---- the sinks of an object with this interface of a source
 
+-- What an entry does to the sinks of a source: it takes one more, or loses the one with this cookie, or neither.
 pub data Change : Type 0 where
   Takes : Sink → Change
   Loses : ℤ → Change
   Stays : Change
 
+-- The cookie that `advise` answers: the number of its result, 0 where there is none or it is below 0.
 abbrev pub result_cookie : Option Value → ℕ
 result_cookie None = 0
 result_cookie (Some v) = cookie_number (number_in v)
 
+-- What the Leave of a call does to the sinks. With S_OK, `advise` takes the sink it was given, under its result as
+-- the cookie, and `unadvise` loses the one with the cookie it was given. Any other Leave leaves them as they are.
 abbrev pub leaving : List Entry → (object iface call : ℕ) → (ok : Bool) → Option Value → Change
 leaving h o i c false v = Stays
 leaving h o i c true v =
@@ -69,15 +76,18 @@ leaving h o i c true v =
     else if is_on (issue h c) o i unadvise then Loses (first_number (given_to h c))
     else Stays
 
+-- What a deed does to the sinks of an object, by calls on this interface. Only a Leave changes them.
 abbrev pub change : List Entry → (object iface : ℕ) → Deed → Change
 change h o i (deed.Leave c hr v bytes) = leaving h o i c (is_S_OK hr) v
 change h o i _ = Stays
 
+-- The sinks after a change. A new one stands behind the others, and those that stay keep their order.
 abbrev pub changed : Change → List Sink → List Sink
 changed (Takes x) xs = xs ++ (x ∷ [])
 changed (Loses n) xs = without n xs
 changed Stays xs = xs
 
+-- The sinks of an object after a history, by calls on this interface, in the order in which they were taken.
 abbrev pub sinks : List Entry → (object iface : ℕ) → List Sink
 sinks [] o i = []
 sinks (e ∷ h) o i = changed (change h o i e.deed) (sinks h o i)
@@ -87,6 +97,7 @@ abbrev pub one_taken : Change → ℕ → ℕ
 one_taken (Takes x) n = n + 1
 one_taken _ n = n
 
+-- How many sinks an object took in a history. Those that it has lost since count too.
 abbrev pub taken : List Entry → (object iface : ℕ) → ℕ
 taken [] o i = 0
 taken (e ∷ h) o i = one_taken (change h o i e.deed) (taken h o i)
@@ -98,6 +109,7 @@ abbrev pub at_enter : Deed → (call now before : ℕ) → ℕ
 at_enter (deed.Enter d o a t vs) c now before = if d == c then now else before
 at_enter _ c now before = before
 
+-- The last cookie of a call of `fire`, by the history, and 0 where the call was not entered.
 abbrev pub last : List Entry → (object iface call : ℕ) → ℕ
 last [] o i c = 0
 last (e ∷ h) o i c = at_enter e.deed c (taken h o i) (last h o i c)
@@ -113,6 +125,7 @@ abbrev pub sends : List Entry → ℕ → ℕ → Deed → Bool
 sends h l c (deed.Out d o i m r k bytes) = is_number c (top_call (first (openers h l)))
 sends h l c _ = false
 
+-- The sinks to which an event went, after one more entry: an Out of the body adds the next sink, if there is one.
 abbrev pub with_next : Bool → Option Sink → List Sink → List Sink
 with_next true (Some x) xs = xs ++ (x ∷ [])
 with_next true None xs = xs

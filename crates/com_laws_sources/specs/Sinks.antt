@@ -8,6 +8,7 @@ use Rattle.std.specs.Int.{w64, int_wrapping_sub}
 use Rattle.std.specs.Ordering.{int_eq}
 use Rattle.com_base.specs.declared.value.RefValue.{RefValue}
 
+-- One sink of a source: its cookie, and the reference that the source keeps of it.
 pub record Sink : Type 0 where
   pub cookie : ℕ
   pub held : Option RefValue

@@ -24,15 +24,20 @@ point_iid =
       data4 = 0x80 ∷ 0 ∷ 0 ∷ 0 ∷ 0 ∷ 0 ∷ 0 ∷ 1 ∷ [];
     }
 
+-- The number of the method that takes a sink, in a source's interface.
 abbrev pub advise : ℕ
 advise = 0
 
+-- The number of the method that lets a sink go, by its cookie.
 abbrev pub unadvise : ℕ
 unadvise = 1
 
+-- The number of the method that sends an event to the sinks.
 abbrev pub fire : ℕ
 fire = 2
 
+-- The methods of a source: `advise` answers a cookie for a sink of interface 1, `ICounter`, `unadvise` ends a
+-- cookie, and `fire` answers how many sinks it called.
 abbrev pub point_methods : List Method
 point_methods =
     record { name = codes "advise"; params = kind.Ref 1 ∷ []; result = Some kind.Int } ∷
@@ -43,6 +48,7 @@ point_methods =
 abbrev pub IsStaModel : ThreadingModel → Type 0
 IsStaModel m = (m ≡ model.Nothing) ⊎ (m ≡ model.Apartment)
 
+-- An interface is that of a source, whatever its name: its IID and its methods are these.
 pub record IsPoint (i : Interface) : Type 0 where
   pub iid : i.iid ≡ point_iid
   pub methods : i.methods ≡ point_methods
@@ -55,6 +61,7 @@ point_body (suc zero) = Some unadvise_body
 point_body (suc (suc zero)) = Some fire_body
 point_body _ = None
 
+-- The body that a source gives for a method of an interface. For any interface but its own it gives none.
 abbrev pub source_body : (own iface method : ℕ) → Option (List Stmt)
 source_body i j m = if j == i then point_body m else None
 

@@ -26,6 +26,7 @@ connects d named live o =
     (made_by (makes d) o || live o)
     && (not (is_number o (disconnects d)) && not (is_number (named o) (ends_sta d)))
 
+-- The books in which what a deed makes is connected, and what it cuts off is not any more.
 abbrev pub connected : Deed → (named : ℕ → ℕ) → Books → Books
 connected d named b = record b { live = connects d named b.live }
 

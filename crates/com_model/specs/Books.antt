@@ -38,6 +38,8 @@ query_row a o i hr = if is_S_OK hr then Asks a o i ∷ [] else []
 abbrev pub revoke_row : ℕ → HResult → List Row
 revoke_row g hr = if is_S_OK hr then Revokes g ∷ [] else []
 
+-- A Leave that has a reply marshals the reference in its result, if there is one; a Leave without reply
+-- marshals nothing.
 abbrev pub reply_rows : ℕ → Option Value → Option (List ℕ) → List Row
 reply_rows a v None = []
 reply_rows a v (Some bytes) = marshal_all a (carried (result_list v))
@@ -47,6 +49,8 @@ abbrev pub back_rows : ℕ → (by_leave : Bool) → Option ℕ → List Row
 back_rows a by_leave None = []
 back_rows a by_leave (Some p) = if by_leave then Unmarshals a p ∷ [] else Drops p ∷ []
 
+-- The rows of an entry, by the lane's action before it and the books that it finds. The apartment is the
+-- running one; `by_leave` says of a call that its answer is its Leave. What is refused has no row.
 abbrev pub rows : Scenario → (act : Option Action) → (by_leave : ℕ → Bool) → Books → (apartment : ℕ) → Deed
     → List Row
 rows s x left b a (deed.Made (Some o) w k (asked.Number i) hr) = Makes a o i ∷ []
@@ -77,20 +81,25 @@ abbrev pub made_by : Option Making → ℕ → Bool
 made_by None o = false
 made_by (Some m) o = m.object == o
 
+-- Whether an object is connected after a deed: `holders` counts all its places then, and the packets and
+-- cookies that hold it.
 abbrev pub live_after : Deed → (named : ℕ → ℕ) → (holders : ℕ → ℕ) → (ℕ → Bool) → ℕ → Bool
 live_after d named holders live o =
     (made_by (makes d) o || live o)
     && (not (is_number o (disconnects d)) && (not (is_number (named o) (ends_sta d)) && not (holders o == 0)))
 
--- All rows but the last; then what is not connected is cut. The places are those after the entry.
+-- The books with all rows of the entry, and with what apartments without place give back. Of the steps of an entry only
+-- the last is left out, the cut of what is not connected. The places are those after the entry.
 abbrev pub most : Scenario → Ground → Scene → (act : Option Action) → (by_leave : ℕ → Bool) → (apartment : ℕ)
     → Deed → Books → Books
 most s g w x left a d b =
     given_back g.apartments (places s g w) (kept b d (entered_rows g.owns b (rows s x left b a d)))
 
+-- The books at the end of an entry: what is not connected, by the places and books then, is cut.
 abbrev pub closed : Scenario → Ground → Scene → Deed → Books → Books
 closed s g w d b = cut (live_after d g.named (λ o. all_places s g w o + held_outside b o) b.live) b
 
+-- The books after a history. Before the first entry nobody holds anything.
 abbrev pub books : Scenario → List Entry → Books
 books s [] = no_books
 books s (e ∷ h) =
@@ -104,5 +113,6 @@ books s (e ∷ h) =
 abbrev pub holders_in : Scenario → Ground → Scene → Books → ℕ → ℕ
 holders_in s g w b o = if b.live o then all_places s g w o + held_outside b o else direct_places s g w o
 
+-- How many holders an object has after a history. An object without holder is not connected.
 abbrev pub holders : Scenario → List Entry → ℕ → ℕ
 holders s h o = holders_in s (ground s h) (scene s h) (books s h) o

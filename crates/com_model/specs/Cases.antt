@@ -48,9 +48,11 @@ direct_call = record {
   picks = [];
 }
 
+-- Up to the Init: lane 1 has made its STA, a3.
 abbrev pub direct_call_1 : List Entry
 direct_call_1 = record { lane = 1; deed = deed.Init mode.Sta 3 (record { 0 = 0 }) } ∷ []
 
+-- Up to the Made: slot 0 of the script holds object 1, a counter that a3 owns.
 abbrev pub direct_call_2 : List Entry
 direct_call_2 =
     record {
@@ -59,6 +61,7 @@ direct_call_2 =
     }
     ∷ direct_call_1
 
+-- Up to the Out: call 1 is issued on the route direct, with causality 1, and not entered yet.
 abbrev pub direct_call_3 : List Entry
 direct_call_3 = record { lane = 1; deed = deed.Out 1 (Some 1) 1 0 route.Direct 1 None } ∷ direct_call_2
 
@@ -70,6 +73,7 @@ direct_call_5 =
     record { lane = 1; deed = deed.Leave 1 (record { 0 = 0 }) (Some (value.Int (pos 5))) None }
     ∷ direct_call_4
 
+-- Up to the Back: call 1 gave 5, nothing is open, and the script still holds object 1.
 abbrev pub direct_call_6 : List Entry
 direct_call_6 =
     record { lane = 1; deed = deed.Back 1 (record { 0 = 0 }) (Some (value.Int (pos 5))) } ∷ direct_call_5
@@ -84,6 +88,7 @@ direct_call_8 = record { lane = 1; deed = deed.Final 1 } ∷ direct_call_7
 abbrev pub direct_call_9 : List Entry
 direct_call_9 = record { lane = 1; deed = deed.Uninit (Some 3) 0 } ∷ direct_call_8
 
+-- The whole history: the reference is released, object 1 has its Final, a3 has ended and lane 1 is over.
 abbrev pub direct_call_10 : List Entry
 direct_call_10 = record { lane = 1; deed = deed.End } ∷ direct_call_9
 
@@ -107,6 +112,7 @@ pumped_words_1 = record { lane = 1; deed = deed.Init mode.Sta 3 (record { 0 = 0 
 abbrev pub pumped_words_2 : List Entry
 pumped_words_2 = record { lane = 2; deed = deed.Post (pos 1) (pos 7) (record { 0 = 0 }) } ∷ pumped_words_1
 
+-- Up to the Pump: lane 1 pumps without bound, and the word 7 that lane 2 posted waits for it.
 abbrev pub pumped_words_3 : List Entry
 pumped_words_3 = record { lane = 1; deed = deed.Pump 0 } ∷ pumped_words_2
 
@@ -168,6 +174,7 @@ into_the_host_2 =
     }
     ∷ into_the_host_1
 
+-- Up to the Out: call 1 waits in the inbox of the host STA, sent from the MTA with the bytes of its request.
 abbrev pub into_the_host_3 : List Entry
 into_the_host_3 =
     record {
@@ -254,6 +261,7 @@ callback = record {
 abbrev pub callback_1 : List Entry
 callback_1 = record { lane = 1; deed = deed.Init mode.Sta 3 (record { 0 = 0 }) } ∷ []
 
+-- Up to the first Made: the script holds object 1, a counter that the STA a3 owns.
 abbrev pub callback_2 : List Entry
 callback_2 =
     record {
@@ -262,6 +270,7 @@ callback_2 =
     }
     ∷ callback_1
 
+-- Up to the second Made: the script holds, by a proxy, object 2, a relay that the MTA owns.
 abbrev pub callback_3 : List Entry
 callback_3 =
     record {
@@ -283,6 +292,7 @@ callback_4 =
     }
     ∷ callback_3
 
+-- Up to the Enter of call 1: the pool lane 3 runs the relay's body, which holds object 1 by a proxy.
 abbrev pub callback_5 : List Entry
 callback_5 =
     record {
@@ -291,9 +301,11 @@ callback_5 =
     }
     ∷ callback_4
 
+-- Up to the Copy: a link of the relay holds object 1 too.
 abbrev pub callback_6 : List Entry
 callback_6 = record { lane = 3; deed = deed.Copy (Some (record { object = 1; iface = 1 })) } ∷ callback_5
 
+-- Up to the Leave of call 1: the body's slot is gone, the link still holds object 1, and lane 1 waits.
 abbrev pub callback_7 : List Entry
 callback_7 =
     record {
@@ -317,6 +329,7 @@ callback_9 =
 abbrev pub callback_10 : List Entry
 callback_10 = record { lane = 3; deed = deed.Enter 2 2 1 None ((value.Int (pos 4)) ∷ []) } ∷ callback_9
 
+-- Up to the second Copy: in call 2 the relay's body has object 1 from the link in a slot.
 abbrev pub callback_11 : List Entry
 callback_11 = record { lane = 3; deed = deed.Copy (Some (record { object = 1; iface = 1 })) } ∷ callback_10
 
@@ -332,6 +345,7 @@ callback_12 =
 abbrev pub callback_13 : List Entry
 callback_13 = record { lane = 1; deed = deed.Enter 3 1 3 (Some 2) ((value.Int (pos 4)) ∷ []) } ∷ callback_12
 
+-- Up to the Leave of call 3, the callback: it ran in lane 1 above the Out of call 2, and lane 3 still waits.
 abbrev pub callback_14 : List Entry
 callback_14 =
     record {
@@ -345,6 +359,7 @@ abbrev pub callback_15 : List Entry
 callback_15 =
     record { lane = 3; deed = deed.Back 3 (record { 0 = 0 }) (Some (value.Int (pos 4))) } ∷ callback_14
 
+-- Up to the Leave of call 2, with what the callback gave; the link alone holds object 1 in the MTA.
 abbrev pub callback_16 : List Entry
 callback_16 =
     record {
@@ -358,12 +373,16 @@ abbrev pub callback_17 : List Entry
 callback_17 =
     record { lane = 1; deed = deed.Back 2 (record { 0 = 0 }) (Some (value.Int (pos 4))) } ∷ callback_16
 
+-- Up to the Uninit: a3 has ended, and both objects are dying, as the relay's proxy and the counter's owner
+-- are gone.
 abbrev pub callback_18 : List Entry
 callback_18 = record { lane = 1; deed = deed.Uninit (Some 3) 0 } ∷ callback_17
 
+-- Up to the Final of the relay in the pool lane 3: its link is null.
 abbrev pub callback_19 : List Entry
 callback_19 = record { lane = 3; deed = deed.Final 2 } ∷ callback_18
 
+-- Up to the Final of the counter in lane 1, which serves a3 though that has ended.
 abbrev pub callback_20 : List Entry
 callback_20 = record { lane = 1; deed = deed.Final 1 } ∷ callback_19
 
@@ -475,6 +494,7 @@ answer_first_8 =
 abbrev pub answer_first_9 : List Entry
 answer_first_9 = record { lane = 4; deed = deed.Enter 1 2 1 None ((value.Int (pos 1)) ∷ []) } ∷ answer_first_8
 
+-- Up to the Leave of call 1: lane 1 has the answer of its own call, and call 2 waits in the inbox of its STA.
 abbrev pub answer_first_10 : List Entry
 answer_first_10 =
     record {
@@ -1523,6 +1543,7 @@ direct_call_text =
     ++ codes "9 L1 uninit a3 0\n"
     ++ codes "10 L1 end\n"
 
+-- The report of the direct call: object 1 is released, nothing is held, and all is done in 10 entries.
 abbrev pub direct_call_report : List ℕ
 direct_call_report =
     codes "o1 C1 a3 released direct 0 proxies 0 packets 0 tables 0 stub 0\n"

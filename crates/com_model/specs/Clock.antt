@@ -19,6 +19,7 @@ abbrev pub ticked : Deed → ℕ → ℕ
 ticked (deed.Tick t) before = t
 ticked _ before = before
 
+-- The time after a history, in virtual milliseconds.
 abbrev pub clock : List Entry → ℕ
 clock [] = 0
 clock (e ∷ h) = ticked e.deed (clock h)
@@ -38,6 +39,8 @@ pub data FilterEffect : Type 0 where
   Names : Option ℕ → FilterEffect
   Keeps : FilterEffect
 
+-- A SetFilter with S_OK names its filter or none; an Init with S_OK, and an Uninit to count 0, name none.
+-- Every other deed keeps the lane's filter.
 abbrev pub filter_effect : Deed → FilterEffect
 filter_effect (deed.SetFilter f hr) = if is_S_OK hr then Names f else Keeps
 filter_effect (deed.Init m a hr) = if is_S_OK hr then Names None else Keeps
@@ -63,6 +66,7 @@ in_made_sta (Some a) f = if nat_le FIRST_STA a then f else None
 abbrev pub filter_of : Scenario → List Entry → ℕ → Option ℕ
 filter_of s h l = in_made_sta (home s h l) (last_filter h l)
 
+-- The rules of a lane's filter, and no rule where it has none.
 abbrev pub rules_of : Scenario → Option ℕ → List Rule
 rules_of s None = []
 rules_of s (Some f) = filter_rules s f

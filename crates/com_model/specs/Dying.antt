@@ -20,6 +20,7 @@ abbrev pub is_dying_by : (objects : ℕ) → (finaled : ℕ → Bool) → (holde
 is_dying_by n finaled holders entered o =
     (nat_le 1 o && nat_le o n) && (not (finaled o) && (holders o == 0 && not (entered o)))
 
+-- Whether an object is dying after a history: its Final is due.
 abbrev pub is_dying : Scenario → List Entry → ℕ → Bool
 is_dying s h o = is_dying_by (objects h) (finaled h) (holders s h) (is_entered s (openers h)) o
 
@@ -29,6 +30,7 @@ abbrev pub fallen_more : (ℕ → Bool) → ℕ → List ℕ → List ℕ
 fallen_more dying n before =
     filter dying before ++ filter (λ o. dying o && not (is_member o before)) (one_to n)
 
+-- The objects that are dying after a history, in the order in which they began to be so.
 abbrev pub fallen : Scenario → List Entry → List ℕ
 fallen s [] = []
 fallen s (e ∷ h) = fallen_more (is_dying s (e ∷ h)) (objects (e ∷ h)) (fallen s h)

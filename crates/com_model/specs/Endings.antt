@@ -29,10 +29,12 @@ pub data EndEffect : Type 0 where
   CutsSta : (apartment : ℕ) → EndEffect
   EndsNone : EndEffect
 
+-- A deed that disconnects an object cuts the calls that wait for it; one that disconnects none cuts none.
 abbrev pub cuts_object : Option ℕ → EndEffect
 cuts_object None = EndsNone
 cuts_object (Some o) = CutsObject o
 
+-- A deed that ends an STA cuts the calls that wait for its objects; one that ends none cuts none.
 abbrev pub cuts_sta : Option ℕ → EndEffect
 cuts_sta None = EndsNone
 cuts_sta (Some a) = CutsSta a
@@ -56,9 +58,11 @@ ends (CutsObject p) c o a cut = where_true (cut && p == o) ByDisconnection
 ends (CutsSta b) c o a cut = where_true (cut && b == a) ByDisconnection
 ends EndsNone c o a cut = None
 
+-- Whether the lane that issued the call has a filter: a Verdict is then put to it, and does not end the call.
 abbrev pub filtered : Scenario → List Entry → ℕ → Bool
 filtered s h c = is_some (filter_of s h (lane_of (issue h c)))
 
+-- Whether a disconnection can still reach the call: its route marshals, and it was not entered.
 abbrev pub can_be_cut : Option Issue → Option Admission → Bool
 can_be_cut i a = is_marshalled (route_of i) && is_none a
 
@@ -75,6 +79,7 @@ pub record Answer : Type 0 where
   pub hr : HResult
   pub value : Option Value
 
+-- An answer that is an HRESULT alone.
 abbrev pub without_value : HResult → Answer
 without_value hr = record { hr = hr; value = None }
 
@@ -83,6 +88,8 @@ abbrev pub verdict_answer : Verdict → HResult
 verdict_answer verdict.Later = RPC_E_SERVERCALL_RETRYLATER
 verdict_answer _ = RPC_E_CALL_REJECTED
 
+-- The answer by what fixed it: at the issue the refusal that the call met there, by a Leave what the body
+-- left with. Only the latter can have a value.
 abbrev pub answer_of : (at_issue : HResult) → Ending → Answer
 answer_of hr AtIssue = without_value hr
 answer_of hr (AtAdmission x) = without_value x
@@ -92,6 +99,7 @@ answer_of hr ByCancel = without_value RPC_E_CALL_CANCELED
 answer_of hr ByDisconnection = without_value RPC_E_DISCONNECTED
 answer_of hr (ByLeave x v) = record { hr = x; value = v }
 
+-- Whether a call's answer is fixed, and by the Leave of its body.
 abbrev pub is_leave : Option Ending → Bool
 is_leave (Some (ByLeave hr v)) = true
 is_leave _ = false

@@ -41,9 +41,11 @@ finished_by s v =
 abbrev pub stuck_by : Scenario → Sight → Bool
 stuck_by s v = no_lane_can s v && (is_none (tick_time v) && not (finished_by s v))
 
+-- Whether all is done after a history: each thread is over, and nothing is open, posted or dying.
 abbrev pub finished : Scenario → List Entry → Bool
 finished s h = finished_by s (sight s h)
 
+-- Whether no lane and no Tick can go on after a history, and it is not finished.
 abbrev pub stuck : Scenario → List Entry → Bool
 stuck s h = stuck_by s (sight s h)
 
@@ -55,6 +57,7 @@ ended_by s v n =
     else if n == limit s then Some ended.Budget
     else None
 
+-- How a history ended; None where it goes on, and where it has more entries than its limit.
 abbrev pub ended_as : Scenario → List Entry → Option Ended
 ended_as s h = if nat_le (length h) (limit s) then ended_by s (sight s h) (length h) else None
 
@@ -66,27 +69,35 @@ pub record Turn : Type 0 where
   pub lane : ℕ
   pub picks : List ℕ
 
+-- Whether a number of the picks is that of a lane which can step; 0, the clock's, never is.
 abbrev pub can_pick : Scenario → Sight → ℕ → Bool
 can_pick s v l = (nat_le 1 l && nat_le l (lanes s)) && can_step s v l
 
+-- The turn by the picks: the first number whose lane can step, with the numbers behind it still to be tried.
+-- None where none of them can.
 abbrev pub picked : (can : ℕ → Bool) → List ℕ → Option Turn
 picked can [] = None
 picked can (l ∷ ls) = if can l then Some (record { lane = l; picks = ls }) else picked can ls
 
+-- All lanes but the clock's in the order of the round: those behind the last one, then from 1 to the last.
 abbrev pub lanes_after : Scenario → (last : ℕ) → List ℕ
 lanes_after s last = numbers_from (last + 1) (lanes s - last) ++ one_to last
 
+-- The turn by the round: the first lane in its order that can step, with no picks left. None where none can.
 abbrev pub in_round : Scenario → Sight → (last : ℕ) → Option Turn
 in_round s v last =
     option_map (λ l. record { lane = l; picks = [] }) (first_that (can_step s v) (lanes_after s last))
 
+-- The clock's turn, where a Tick is due: it leaves the picks as they are.
 abbrev pub at_clock : Sight → List ℕ → Option Turn
 at_clock v picks = option_map (λ t. record { lane = 0; picks = picks }) (tick_time v)
 
+-- Whose turn it is: the clock's if no lane can step, else by the picks, else by the round; None if nobody's.
 abbrev pub turn : Scenario → Sight → (picks : List ℕ) → (last : ℕ) → Option Turn
 turn s v picks last =
     if no_lane_can s v then at_clock v picks else or_else (picked (can_pick s v) picks) (in_round s v last)
 
+-- The last lane after an entry: the one that made it, and the one before where that was the clock.
 abbrev pub last_after : (lane last : ℕ) → ℕ
 last_after zero last = last
 last_after (suc l) last = suc l
@@ -98,20 +109,24 @@ abbrev pub with_entry : (List Entry → List ℕ → ℕ → List Entry) → Lis
 with_entry go h t last None = h
 with_entry go h t last (Some d) = go (record { lane = t.lane; deed = d } ∷ h) t.picks (last_after t.lane last)
 
+-- The history with the entry of the turn, grown on by `go`; without a turn it stays as it is.
 abbrev pub with_turn : Scenario → (List Entry → List ℕ → ℕ → List Entry) → List Entry → ℕ → Option Turn
     → List Entry
 with_turn s go h last None = h
 with_turn s go h last (Some t) = with_entry go h t last (next s h t.lane)
 
+-- A history that has ended, as it is; any other with the entry of the next turn, grown on by `go`.
 abbrev pub unless_ended : Scenario → (List Entry → List ℕ → ℕ → List Entry) → List Entry → List ℕ → ℕ
     → Option Ended → List Entry
 unless_ended s go h picks last (Some x) = h
 unless_ended s go h picks last None = with_turn s go h last (turn s (sight s h) picks last)
 
+-- What a history grows to in at most n turns, from these picks and this last lane on, until it has ended.
 abbrev pub run_on : ℕ → Scenario → List Entry → List ℕ → ℕ → List Entry
 run_on zero s h picks last = h
 run_on (suc n) s h picks last = unless_ended s (run_on n s) h picks last (ended_as s h)
 
+-- The history of a scenario's schedule: from no entry, with all its picks, until it has ended.
 abbrev pub scheduled : Scenario → List Entry
 scheduled s = run_on (limit s) s [] s.picks 0
 
@@ -122,6 +137,7 @@ state_of true live = state.Released
 state_of false true = state.Live
 state_of false false = state.Disconnected
 
+-- The sum of a number over all interfaces that are declared.
 abbrev pub over_interfaces : Scenario → (ℕ → ℕ) → ℕ
 over_interfaces s f = sum_below (length s.classes.interfaces) f
 
@@ -137,6 +153,7 @@ counts_by s h b o = record {
   stub = over_interfaces s (b.stub o);
 }
 
+-- What the report says of an object after a history.
 abbrev pub counts_of : Scenario → List Entry → ℕ → Counts
 counts_of s h o = counts_by s h (books s h) o
 
@@ -145,12 +162,15 @@ counts_of s h o = counts_by s h (books s h) o
 abbrev pub text : Scenario → List Entry → List ℕ
 text s h = history_text s.version h
 
+-- What the report says of each object after a history, in the order of making.
 abbrev pub all_counts : Scenario → List Entry → List Counts
 all_counts s h = map (counts_of s h) (one_to (objects h))
 
+-- The report of a history that ended so; where it has not ended, no byte.
 abbrev pub report_as : Scenario → List Entry → Option Ended → List ℕ
 report_as s h None = []
 report_as s h (Some x) = report_text (all_counts s h) (length h) (clock h) x
 
+-- The report of a history; where it has not ended, no byte.
 abbrev pub report : Scenario → List Entry → List ℕ
 report s h = report_as s h (ended_as s h)

@@ -40,6 +40,7 @@ pub record Scene : Type 0 where
   pub buffers : ℕ → List ℕ
   pub destinations : ℕ → Destination
 
+-- Before the first entry: frames without values, the cells of new objects, empty buffers, and no result that is wanted.
 abbrev pub first_scene : Scene
 first_scene = record {
   scripts = λ l. entered [];
@@ -56,18 +57,23 @@ pub data Actor : Type 0 where
   Script : (lane : ℕ) → Actor
   Nobody : Actor
 
+-- Who acts in a lane without opener: in a thread's lane its script, in every other lane nobody.
 abbrev pub script_of : LaneSort → ℕ → Actor
 script_of Thread l = Script l
 script_of _ l = Nobody
 
+-- Who acts in a lane with these openers, the innermost first: nobody where that is a pump, or an Out that waits.
 abbrev pub actor : LaneSort → ℕ → List Opener → Actor
 actor sort l [] = script_of sort l
 actor sort l (Enters c o a ∷ os) = Body c o
 actor sort l (_ ∷ os) = Nobody
 
+-- Who acts in a lane after a history. A script that has come to its end counts as acting here.
 abbrev pub actor_in : Scenario → List Entry → ℕ → Actor
 actor_in s h l = actor (lane_sort s l) l (openers h l)
 
+-- The body step for a call by what its Out says, on an object of this class. Without an Out there is no statement,
+-- so that the step leaves with S_OK.
 abbrev pub issued_body : Scenario → (class : ℕ) → Option Issue → FrameView → Cells → Outcome
 issued_body s k None f c = body_step [] f c
 issued_body s k (Some i) f c = body_step (body_of s.classes k i.iface i.method) f c
@@ -83,6 +89,7 @@ abbrev pub is_leave : Action → Bool
 is_leave (action.Leave hr v) = true
 is_leave _ = false
 
+-- Nobody in place of a script whose step is a leave, which says that it is over; a body that leaves still acts.
 abbrev pub unless_over : Actor → Option Outcome → Actor
 unless_over (Script l) (Some r) = if is_leave r.action then Nobody else Script l
 unless_over a r = a
@@ -109,9 +116,12 @@ answer_in (deed.Quit l hr) = hr
 answer_in (deed.Disconnect o hr) = hr
 answer_in _ = S_OK
 
+-- The reference to an object, by the number of an interface.
 abbrev pub reference : ℕ → ℕ → RefValue
 reference o i = record { object = o; iface = i }
 
+-- The reference that a Made, a Query, an Unmarshal or a Get gives to whoever acts; none on refusal, and none in
+-- any other entry.
 abbrev pub taken_in : Deed → Option RefValue
 taken_in (deed.Made (Some o) a k (asked.Number i) hr) = Some (reference o i)
 taken_in (deed.Query (Some o) (asked.Number i) hr) = if is_S_OK hr then Some (reference o i) else None
@@ -119,6 +129,7 @@ taken_in (deed.Unmarshal p held refs hr) = held
 taken_in (deed.Get g held refs hr) = held
 taken_in _ = None
 
+-- The cookie that a Register gives, from 1; 0 where it is refused, and in any other entry.
 abbrev pub cookie_in : Deed → ℕ
 cookie_in (deed.Register (Some g) held hr) = g
 cookie_in _ = 0
@@ -130,6 +141,7 @@ pub data Write : Type 0 where
   ToLink : (number : ℕ) → Option RefValue → Write
   ToBuffer : (number : ℕ) → List ℕ → Write
 
+-- The write of a reference, or of null, at a place: a slot of the frame, or a link of the body's object.
 abbrev pub to_place : Place → Option RefValue → Write
 to_place (place.Slot k) held = ToSlot k held
 to_place (place.Link k) held = ToLink k held
@@ -138,6 +150,7 @@ to_place (place.Link k) held = ToLink k held
 abbrev pub to_answer : HResult → Write
 to_answer hr = ToRegister ANSWER_REGISTER (value.Int (pos hr.0))
 
+-- A Marshal puts the bytes of its packet in buffer b. On refusal it has none, and the buffer stays.
 abbrev pub marshalled_in : ℕ → Deed → List Write
 marshalled_in b (deed.Marshal p m held refs hr (Some bytes)) = ToBuffer b bytes ∷ []
 marshalled_in b _ = []
@@ -160,6 +173,7 @@ writes (action.Leave hr v) d = []
 writes (action.Pump n) d = []
 writes _ d = to_answer (answer_in d) ∷ []
 
+-- The reference that a result is; null where there is no result or it is no reference.
 abbrev pub value_reference : Option Value → Option RefValue
 value_reference (Some (value.Ref held)) = held
 value_reference _ = None
@@ -170,6 +184,7 @@ abbrev pub to_register : ℕ → Option Value → List Write
 to_register r None = []
 to_register r (Some v) = ToRegister r v ∷ []
 
+-- What a Back writes of the result, by the destination that the call's Out kept; nothing where that is Nowhere.
 abbrev pub to_destination : Destination → Option Value → List Write
 to_destination destination.Nowhere v = []
 to_destination (destination.Register r) v = to_register r v
@@ -192,6 +207,7 @@ in_script w l (ToSlot k held) = record w { scripts = put l (with_slot (w.scripts
 in_script w l (ToLink k held) = w
 in_script w l (ToBuffer p bytes) = record w { buffers = put p bytes w.buffers }
 
+-- The scene after a write by whoever acts. A script has no links, and nobody writes anything.
 abbrev pub written : Actor → Scene → Write → Scene
 written (Body c o) w x = in_body w c o x
 written (Script l) w x = in_script w l x
@@ -209,6 +225,8 @@ wants (action.Call held i m args to) (deed.Out c o j n r k bytes) w =
     record w { destinations = put c to w.destinations }
 wants _ d w = w
 
+-- The scene after the step of whoever acts: its frame and cells, then what its entry writes, and where the result of
+-- a call is to go. Without a step the scene stays.
 abbrev pub acted : Actor → Option Outcome → Deed → Scene → Scene
 acted a None d w = w
 acted a (Some r) d w = wants r.action d (fold (written a) (with_frame a r w) (writes r.action d))
@@ -235,6 +253,7 @@ cut_links named (Some a) w =
           else w.cells o;
     }
 
+-- Who makes a step at this deed: nobody at a Final, and nobody where the script of the lane is over.
 abbrev pub acting : Scenario → (class : ℕ → ℕ) → (issue : ℕ → Option Issue) → Scene → Actor → Deed → Actor
 acting s k i w a d = unless_final d (unless_over a (outcome s k i w a))
 
@@ -245,6 +264,7 @@ scene_after s k n i a b l d w =
     cut_links n (ends_sta d)
     (arrived b l d (acted (acting s k i w a d) (outcome s k i w (acting s k i w a d)) d w))
 
+-- What scripts, open bodies, objects and packet buffers hold after a history.
 abbrev pub scene : Scenario → List Entry → Scene
 scene s [] = first_scene
 scene s (e ∷ h) =
@@ -256,8 +276,10 @@ abbrev pub action_of : Option Outcome → Option Action
 action_of None = None
 action_of (Some r) = Some r.action
 
+-- The next action of whoever acts, in this scene; none where nobody does, and none where the script is over.
 abbrev pub act_by : Scenario → (class : ℕ → ℕ) → (issue : ℕ → Option Issue) → Scene → Actor → Option Action
 act_by s k i w a = action_of (outcome s k i w (unless_over a (outcome s k i w a)))
 
+-- The next action of a lane's body or script after a history; none where nobody acts or the script is over.
 abbrev pub act : Scenario → List Entry → ℕ → Option Action
 act s h l = act_by s (class_of h) (issue h) (scene s h) (actor_in s h l)

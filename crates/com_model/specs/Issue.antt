@@ -30,11 +30,14 @@ call_refusal s (Some a) r owns live (Some t) i m =
     else if not (owns t.object (number_or_zero r)) && not (live t.object) then Some RPC_E_DISCONNECTED
     else None
 
+-- The refusal of a lane's next action where that is a call; None where it is another action, or where there
+-- is none.
 abbrev pub action_refusal : Scenario → (home running : Option ℕ) → (owns : ℕ → ℕ → Bool) → (live : ℕ → Bool)
     → Option Action → Option HResult
 action_refusal s a r owns live (Some (action.Call held i m args to)) = call_refusal s a r owns live held i m
 action_refusal s a r owns live _ = None
 
+-- The refusal, or S_OK where there is none.
 abbrev pub or_ok : Option HResult → HResult
 or_ok None = S_OK
 or_ok (Some hr) = hr
@@ -44,14 +47,18 @@ abbrev pub refusal_before : Scenario → List Entry → ℕ → HResult
 refusal_before s h l =
     or_ok (action_refusal s (home s h l) (running s h l) (owns s h) (books s h).live (act s h l))
 
+-- The refusal of a call after an Out of lane l: what lane l meets there, if the Out is the call's own, else
+-- what was known before.
 abbrev pub own_refusal : Scenario → List Entry → ℕ → (own : Bool) → HResult → HResult
 own_refusal s h l true before = refusal_before s h l
 own_refusal s h l false before = before
 
+-- The refusal of call c after an entry: an Out of c fixes it, and every other entry leaves it.
 abbrev pub refusal_or : Scenario → List Entry → Option Issue → ℕ → HResult → HResult
 refusal_or s h None c before = before
 refusal_or s h (Some i) c before = own_refusal s h i.lane (i.call == c) before
 
+-- The refusal that a call met at its Out; S_OK where it met none, or was not issued.
 abbrev pub at_issue : Scenario → List Entry → ℕ → HResult
 at_issue s [] c = S_OK
 at_issue s (e ∷ h) c = refusal_or s h (issues e.lane e.deed) c (at_issue s h c)
@@ -62,10 +69,12 @@ abbrev pub own_values : Scenario → List Entry → Issue → (own : Bool) → L
 own_values s h i true before = out_values s (books s h) (is_marshalled i.route) (act s h i.lane)
 own_values s h i false before = before
 
+-- The values of call c after an entry: an Out of c fixes them, and every other entry leaves them.
 abbrev pub values_or : Scenario → List Entry → Option Issue → ℕ → List Value → List Value
 values_or s h None c before = before
 values_or s h (Some i) c before = own_values s h i (i.call == c) before
 
+-- The argument values that a call sent at its Out; none for a call that was not issued.
 abbrev pub sent : Scenario → List Entry → ℕ → List Value
 sent s [] c = []
 sent s (e ∷ h) c = values_or s h (issues e.lane e.deed) c (sent s h c)

@@ -11,6 +11,7 @@ use Rattle.com_model.specs.Lists.{without_first}
 pub use Rattle.com_model.specs.declared.keeps.Opener.{Opener}
 pub use Rattle.com_model.specs.declared.keeps.Opener.TheVariants.{Pumps, Waits, Enters}
 
+-- What closes an opener: the end of a pump, the Back of a call to its caller, the Leave of a call's body.
 pub data Closer : Type 0 where
   EndsPump : Closer
   Backs : (call : ℕ) → Closer
@@ -23,6 +24,7 @@ pub data Effect : Type 0 where
   Closes : Closer → Effect
   Keeps : Effect
 
+-- Pump, Out and Enter open, EndPump, Back and Leave close, and every other deed keeps the openers.
 abbrev pub effect : Deed → Effect
 effect (deed.Pump bound) = Opens (Pumps bound)
 effect (deed.Out call object iface method route cause bytes) = Opens (Waits call)
@@ -36,6 +38,7 @@ effect _ = Keeps
 abbrev pub effect_on : ℕ → Entry → Effect
 effect_on l e = if e.lane == l then effect e.deed else Keeps
 
+-- The openers after a deed: a closer takes the innermost away, whether or not that is its own.
 abbrev pub opened : Effect → List Opener → List Opener
 opened (Opens o) os = o ∷ os
 opened (Closes c) os = without_first os
@@ -53,6 +56,7 @@ matches (Backs c) (Waits d) = c ≡ d
 matches (Leaves c) (Enters d o a) = c ≡ d
 matches _ _ = ⊥
 
+-- Where the deed closes, that there is an innermost opener and the closer matches it.
 abbrev pub fits : Effect → List Opener → Type 0
 fits (Opens o) os = Unit {0}
 fits Keeps os = Unit {0}
@@ -70,11 +74,13 @@ running_call [] = None
 running_call (Enters c o a ∷ os) = Some c
 running_call (_ ∷ os) = running_call os
 
+-- The object of the last open Enter, and None where no body is open in the lane.
 abbrev pub running_object : List Opener → Option ℕ
 running_object [] = None
 running_object (Enters c o a ∷ os) = Some o
 running_object (_ ∷ os) = running_object os
 
+-- The apartment that the last open Enter names, and None where no body is open in the lane.
 abbrev pub entered_apartment : List Opener → Option ℕ
 entered_apartment [] = None
 entered_apartment (Enters c o a ∷ os) = Some a
@@ -108,6 +114,7 @@ left_on (Opens (Pumps bound)) os n = 0
 left_on (Closes (Leaves c)) (Pumps bound ∷ []) n = n + 1
 left_on _ os n = n
 
+-- How many bodies have left that the lane's last pump admitted directly; 0 before the first pump.
 abbrev pub served : List Entry → ℕ → ℕ
 served [] l = 0
 served (e ∷ h) l = left_on (effect_on l e) (openers (e ∷ h) l) (served h l)

@@ -32,10 +32,12 @@ abbrev pub EachEntry : (List Entry → ℕ → Deed → Type 0) → List Entry �
 EachEntry P [] = Unit {0}
 EachEntry P (e ∷ h) = EachEntry P h × P h e.lane e.deed
 
+-- That the fact holds of the empty history, of the whole one, and of each prefix between.
 abbrev pub EachPrefix : (List Entry → Type 0) → List Entry → Type 0
 EachPrefix P [] = P []
 EachPrefix P (e ∷ h) = EachPrefix P h × P (e ∷ h)
 
+-- The first fact where the test is met, and the second where it is not.
 abbrev pub Either : Bool → Type 0 → Type 0 → Type 0
 Either true A B = A
 Either false A B = B
@@ -48,6 +50,8 @@ InApartment s h l (deed.Enter c o a t vs) =
     × Either (agile s h o || named h o == neutral) (l ≡ lane_of (issue h c)) (home s h l ≡ Some (named h o))
 InApartment s h l _ = Unit {0}
 
+-- That each body of a history was entered in an apartment that owns its object, and in a lane that may run
+-- it.
 abbrev pub Apartment : Scenario → List Entry → Type 0
 Apartment s h = EachEntry (InApartment s) h
 
@@ -58,6 +62,8 @@ InServing s h l [] = Unit {0}
 InServing s h l (Enters c o a ∷ os) = (is_sta a ≡ true → serves s h l a ≡ true) × InServing s h l os
 InServing s h l (_ ∷ os) = InServing s h l os
 
+-- That in each lane every closer closes the innermost opener, and that an open body in an STA stands in a
+-- lane which serves it.
 abbrev pub Stacked : Scenario → List Entry → Type 0
 Stacked s h = (l : ℕ) → nested h l × InServing s h l (openers h l)
 
@@ -68,6 +74,7 @@ pub data Maker : Type 0 where
   ScriptAlone : Maker
   ARule : Maker
 
+-- Who can make each deed. A DropPacket of a packet counts as a rule's, since rules make such ones too.
 abbrev pub maker : Deed → Maker
 maker (deed.Made o a k i hr) = BodyOrScript
 maker (deed.Query o i hr) = BodyOrScript
@@ -92,6 +99,8 @@ maker (deed.Pump n) = ScriptAlone
 maker deed.End = ScriptAlone
 maker _ = ARule
 
+-- That these openers let the maker act: a body as the innermost of them, a script where there are none, a
+-- rule above any.
 abbrev pub MadeOnTop : Maker → List Opener → Type 0
 MadeOnTop ARule os = Unit {0}
 MadeOnTop BodyOrScript [] = Unit {0}
@@ -100,6 +109,7 @@ MadeOnTop BodyOrScript (_ ∷ os) = ⊥
 MadeOnTop ScriptAlone [] = Unit {0}
 MadeOnTop ScriptAlone (o ∷ os) = ⊥
 
+-- Clause 2: each prefix is stacked, and each entry is made above openers that let its maker act.
 abbrev pub OneStack : Scenario → List Entry → Type 0
 OneStack s h = EachPrefix (Stacked s) h × EachEntry (λ h l d. MadeOnTop (maker d) (openers h l)) h
 
@@ -112,9 +122,12 @@ CanAdmit s h l (Pumps n ∷ os) = Unit {0}
 CanAdmit s h l (Waits c ∷ os) = (is_post (route_of (issue h c)) ≡ true) × (ending s h c ≡ None)
 CanAdmit s h l (Enters c o a ∷ os) = ⊥
 
+-- That call c is the first in the inbox of apartment a.
 abbrev pub FirstOf : Scenario → List Entry → ℕ → ℕ → Type 0
 FirstOf s h a c = first (inbox s h a) ≡ Some c
 
+-- The clause for an Enter of call c in lane l with call type t, by the route of the call, and by whether the
+-- apartment that its target's making names is an STA.
 abbrev pub EntersBy : Scenario → List Entry → ℕ → ℕ → Option ℕ → (route : Route) → (sta : Bool) → Type 0
 EntersBy s h l c t route.Post true =
     FirstOf s h (named h (target h c)) c × CanAdmit s h l (openers h l)
@@ -123,6 +136,8 @@ EntersBy s h l c t route.Post false =
     FirstOf s h mta c × (lane_sort s l ≡ Pool) × (openers h l ≡ []) × (t ≡ None)
 EntersBy s h l c t _ sta = (first (openers h l) ≡ Some (Waits c)) × (t ≡ None)
 
+-- That an Enter or a Verdict keeps the clause. A Verdict is on the first call of the inbox, in a lane that
+-- can admit, with the call type, and with the filter's answer that is not Handled.
 abbrev pub Reenters : Scenario → List Entry → ℕ → Deed → Type 0
 Reenters s h l (deed.Enter c o a t vs) =
     EntersBy s h l c t (route_of (issue h c)) (is_sta (named h (target h c)))
@@ -132,6 +147,7 @@ Reenters s h l (deed.Verdict c t v) =
     × (is_handled_in s (sight s h) l c ≡ false)
 Reenters s h l _ = Unit {0}
 
+-- That each Enter and each Verdict of a history keeps clause 3.
 abbrev pub Reentry : Scenario → List Entry → Type 0
 Reentry s h = EachEntry (Reenters s) h
 
@@ -145,6 +161,7 @@ pub data Event : Type 0 where
   IsBack : (call : ℕ) → Event
   IsOther : Event
 
+-- Which of the four steps of a call a deed is: its Out, its Enter, its Leave, its Back, or none of them.
 abbrev pub event : Deed → Event
 event (deed.Out c o i m r k bytes) = IsOut c
 event (deed.Enter c o a t vs) = IsEnter c
@@ -162,6 +179,7 @@ pub record Stage : Type 0 where
 abbrev pub no_stage : Stage
 no_stage = record { out = false; enter = false; leave = false; back = false }
 
+-- What call c has had after a step: a step of another call adds nothing to it.
 abbrev pub stage_after : Event → ℕ → Stage → Stage
 stage_after (IsOut d) c t = record t { out = d == c || t.out }
 stage_after (IsEnter d) c t = record t { enter = d == c || t.enter }
@@ -169,10 +187,13 @@ stage_after (IsLeave d) c t = record t { leave = d == c || t.leave }
 stage_after (IsBack d) c t = record t { back = d == c || t.back }
 stage_after IsOther c t = t
 
+-- Which of its four steps a call has had in a history.
 abbrev pub stage : List Entry → ℕ → Stage
 stage [] c = no_stage
 stage (e ∷ h) c = stage_after (event e.deed) c (stage h c)
 
+-- That the step is the call's first of its kind, and comes after what it needs: Enter and Back after Out,
+-- Leave after Enter.
 abbrev pub ComesOnce : Event → (ℕ → Stage) → Type 0
 ComesOnce (IsOut c) t = (t c).out ≡ false
 ComesOnce (IsEnter c) t = ((t c).out ≡ true) × ((t c).enter ≡ false)
@@ -183,6 +204,8 @@ ComesOnce IsOther t = Unit {0}
 abbrev pub once : List Entry → Type 0
 once h = EachEntry (λ h l d. ComesOnce (event d) (stage h)) h
 
+-- That an Enter has the values that were sent and comes before any answer, a Leave is what the body's step
+-- gives, and a Back has the call's answer.
 abbrev pub OwnReply : Scenario → List Entry → ℕ → Deed → Type 0
 OwnReply s h l (deed.Enter c o a t vs) = (vs ≡ sent s h c) × (ending s h c ≡ None)
 OwnReply s h l (deed.Leave c hr v bytes) =
@@ -191,6 +214,7 @@ OwnReply s h l (deed.Back c hr v) =
     option_map (back_answer (sight s h) c) (due_of (sight s h) c) ≡ Some (record { hr = hr; value = v })
 OwnReply s h l _ = Unit {0}
 
+-- Clause 4: the steps of each call come once and in order, and its entries carry what is the call's own.
 abbrev pub Replies : Scenario → List Entry → Type 0
 Replies s h = once h × EachEntry (OwnReply s) h
 
@@ -199,11 +223,14 @@ Replies s h = once h × EachEntry (OwnReply s) h
 abbrev pub Balanced : Scenario → List Entry → Type 0
 Balanced s h = (o i : ℕ) → (books s h).stub o i ≡ held (apartments h) (books s h) o i
 
+-- That where a place names a connected object by an interface, in an apartment that does not own it, the
+-- apartment's proxy holds at least 1 public reference of this interface.
 abbrev pub Secured : Scenario → List Entry → Type 0
 Secured s h =
     (a o i : ℕ) → (books s h).live o ≡ true → owns s h o a ≡ false
     → 1 ≤ places_that s (ground s h) (scene s h) a (to_interface o i) → 1 ≤ (books s h).proxy a o i
 
+-- That after each prefix of a history the stubs are balanced, and the proxy places secured.
 abbrev pub Balance : Scenario → List Entry → Type 0
 Balance s h = EachPrefix (λ h. Balanced s h × Secured s h) h
 
@@ -216,9 +243,12 @@ Releases s h l (deed.Final o) =
 Releases s h l (deed.Enter c o a t vs) = finaled h o ≡ false
 Releases s h l _ = Unit {0}
 
+-- That no direct place names an object that has had its Final.
 abbrev pub Gone : Scenario → List Entry → Type 0
 Gone s h = (o : ℕ) → finaled h o ≡ true → direct_places s (ground s h) (scene s h) o ≡ 0
 
+-- That each entry of a history keeps clause 6, and that after no prefix a direct place names what is
+-- released.
 abbrev pub Release : Scenario → List Entry → Type 0
 Release s h = EachEntry (Releases s) h × EachPrefix (Gone s) h
 
@@ -228,10 +258,14 @@ abbrev pub is_refused_route : Route → Bool
 is_refused_route route.Refused = true
 is_refused_route _ = false
 
+-- That a refused entry is what the next action of its lane gives, with the first refusal that applies; of
+-- another entry nothing is said.
 abbrev pub Refused : Scenario → List Entry → ℕ → Deed → (refused : Bool) → Type 0
 Refused s h l d true = option_map (deed_of s (sight s h) l) (act s h l) ≡ Some d
 Refused s h l d false = Unit {0}
 
+-- That a Back, a Refuse, a Verdict, an Out without route, and any other entry that does not answer S_OK has
+-- its cause in what stood before it.
 abbrev pub HasCause : Scenario → List Entry → ℕ → Deed → Type 0
 HasCause s h l (deed.Back c hr v) = OwnReply s h l (deed.Back c hr v)
 HasCause s h l (deed.Refuse c hr) = admission s (sight s h) l c ≡ deed.Refuse c hr
@@ -239,9 +273,11 @@ HasCause s h l (deed.Verdict c t v) = admission s (sight s h) l c ≡ deed.Verdi
 HasCause s h l (deed.Out c o i m r k bytes) = Refused s h l (deed.Out c o i m r k bytes) (is_refused_route r)
 HasCause s h l d = Refused s h l d (not (is_S_OK (answer_in d)))
 
+-- That each entry of a history keeps clause 7.
 abbrev pub Causes : Scenario → List Entry → Type 0
 Causes s h = EachEntry (HasCause s) h
 
+-- That a history keeps the seven clauses.
 pub record Safe (s : Scenario) (h : List Entry) : Type 0 where
   pub apartment : Apartment s h
   pub one_stack : OneStack s h

@@ -18,6 +18,7 @@ use Rattle.com_model.specs.Waiting.{Phase, Mail, phase, inbox, mail, quit_stands
 use Rattle.com_model.specs.Dying.{dying}
 use Rattle.com_model.specs.Issue.{at_issue, unread}
 
+-- What the rules look at beside the scenario and the lane: readings of a history, or of a core's tables.
 pub record Sight : Type 0 where
   -- of a lane
   pub openers : ℕ → List Opener
@@ -57,6 +58,7 @@ pub record Sight : Type 0 where
   pub books : Books
   pub buffers : ℕ → List ℕ
 
+-- What the rules see after a history.
 abbrev pub sight : Scenario → List Entry → Sight
 sight s h = record {
   openers = openers h;

@@ -57,6 +57,8 @@ pub record SceneTables : Type 0 where
   pub buffers : List (List ℕ)
   pub destinations : List Destination
 
+-- The books of public references. Rows of apartments, objects, interfaces and calls are by number from 0; packets
+-- and cookies from 1.
 pub record BookTables : Type 0 where
   pub stub : List (List ℕ)
   pub proxy : List (List (List ℕ))
@@ -66,6 +68,7 @@ pub record BookTables : Type 0 where
   pub arguments : List (List ℕ)
   pub result : List (Option ℕ)
 
+-- What a core keeps of the history so far: tables by lane, object and call, and what there is once for all.
 pub record State : Type 0 where
   -- by lane, from 0
   pub openers : List (List Opener)
@@ -103,18 +106,23 @@ pub record State : Type 0 where
 
 -- ---- readings
 
+-- What stands open in a lane, the innermost first.
 abbrev pub openers_in : State → ℕ → List Opener
 openers_in st l = slice_index_or st.openers l []
 
+-- How many bodies have left that the lane's last pump admitted directly.
 abbrev pub served_in : State → ℕ → ℕ
 served_in st l = slice_index_or st.served l 0
 
+-- The home of a lane: the host's is a2, a pool lane's a1; a thread has none while it is not initialised.
 abbrev pub home_in : Scenario → State → ℕ → Option ℕ
 home_in s st l = home_by_sort (lane_sort s l) (slice_index_or st.homes l None)
 
+-- The apartment in which a lane runs: the one of its last open Enter, else its home, if it has one.
 abbrev pub running_in : Scenario → State → ℕ → Option ℕ
 running_in s st l = or_else (entered_apartment (openers_in st l)) (home_in s st l)
 
+-- The number of the next STA that a thread makes. All apartments have numbers below it.
 abbrev pub next_sta_in : State → ℕ
 next_sta_in st = length st.stas + FIRST_STA
 
@@ -124,27 +132,33 @@ main_sta_in st = or_host (first (filter (λ a. not (is_member a st.ended)) st.st
 abbrev pub making_in : State → ℕ → Option Making
 making_in st o = from_one st.makings o None
 
+-- How many objects were made. They have the numbers from 1 to this.
 abbrev pub objects_in : State → ℕ
 objects_in st = length st.makings
 
+-- The apartment that an object's making names, its owner; 0 for an agile object, and where there is no such object.
 abbrev pub named_in : State → ℕ → ℕ
 named_in st o = number_or_zero (option_map (λ (m : Making). m.apartment) (making_in st o))
 
+-- The number of an object's class, from 1; 0 where there is no such object.
 abbrev pub class_in : State → ℕ → ℕ
 class_in st o = number_or_zero (option_map (λ (m : Making). m.class) (making_in st o))
 
 abbrev pub agile_in : Scenario → State → ℕ → Bool
 agile_in s st o = is_agile_class s (class_in st o)
 
+-- Whether apartment a owns the object: each apartment does where the object is agile, else the one of its making.
 abbrev pub owns_in : Scenario → State → ℕ → ℕ → Bool
 owns_in s st o a = agile_in s st o || a == named_in st o
 
 abbrev pub owner_in : Scenario → State → ℕ → ℕ → ℕ
 owner_in s st o l = if agile_in s st o then number_or_zero (running_in s st l) else named_in st o
 
+-- What the Out of a call says; none where there is no such call.
 abbrev pub issue_in : State → ℕ → Option Issue
 issue_in st c = from_one st.issues c None
 
+-- What the Enter of a call says; none where it was not entered.
 abbrev pub admitted_in : State → ℕ → Option Admission
 admitted_in st c = from_one st.admissions c None
 
@@ -154,12 +168,15 @@ left_in st c = from_one st.leavings c None
 abbrev pub returned_in : State → ℕ → Bool
 returned_in st c = from_one st.returned c false
 
+-- What fixed the answer of a call; none as long as it has no answer.
 abbrev pub ending_in : State → ℕ → Option Ending
 ending_in st c = from_one st.endings c None
 
+-- Where a call stands since its last posting: `Unposted` where it was never posted, or there is no such call.
 abbrev pub phase_in : State → ℕ → Phase
 phase_in st c = from_one st.phases c Unposted
 
+-- The message filter of a lane: the one named last in its home, if that is an STA that a thread made; else none.
 abbrev pub filter_in : Scenario → State → ℕ → Option ℕ
 filter_in s st l = in_made_sta (home_in s st l) (slice_index_or st.filters l None)
 
@@ -168,9 +185,11 @@ waits_for st a c =
     named_in st (object_of (issue_in st c)) == a
     && (is_queued (phase_in st c) && (is_none (admitted_in st c) && is_none (ending_in st c)))
 
+-- The calls that wait in the inbox of an apartment, in the order of their last posting.
 abbrev pub inbox_in : State → ℕ → List ℕ
 inbox_in st a = filter (waits_for st a) st.postings
 
+-- The scene that tables stand for. Under a number without row a frame, an object's cells or a buffer are as new.
 abbrev pub scene_read : SceneTables → Scene
 scene_read t = record {
   scripts = λ l. slice_index_or t.scripts l (entered []);
@@ -180,9 +199,11 @@ scene_read t = record {
   destinations = λ c. slice_index_or t.destinations c destination.Nowhere;
 }
 
+-- What scripts, open bodies, objects and packet buffers hold.
 abbrev pub scene_in : State → Scene
 scene_in st = scene_read st.scene
 
+-- The books that tables stand for. Under a number without row nothing is counted and nothing is connected.
 abbrev pub books_read : BookTables → Books
 books_read t = record {
   stub = λ o i. slice_index_or (slice_index_or t.stub o []) i 0;
@@ -194,9 +215,11 @@ books_read t = record {
   result = λ c. slice_index_or t.result c None;
 }
 
+-- What stubs, proxies, packets and cookies hold, and which objects are connected.
 abbrev pub books_in : State → Books
 books_in st = books_read st.books
 
+-- What the places of references rest on, beside what the scene holds.
 abbrev pub ground_in : Scenario → State → Ground
 ground_in s st = record {
   openers = openers_in st;
@@ -212,21 +235,26 @@ ground_in s st = record {
   returned = returned_in st;
 }
 
+-- Who acts in a lane: a body, a script, which may have come to its end, or nobody.
 abbrev pub actor_of : Scenario → State → ℕ → Actor
 actor_of s st l = actor (lane_sort s l) l (openers_in st l)
 
+-- Whether an object is dying: it was made, has no Final, no holder, and no Enter of it is open.
 abbrev pub dies_in : Scenario → State → ℕ → Bool
 dies_in s st o =
     is_dying_by (objects_in st) (λ x. is_member x st.finaled)
     (holders_in s (ground_in s st) (scene_in st) (books_in st))
     (is_entered s (openers_in st)) o
 
+-- Whether a lane serves apartment a: a thread the STAs that it made, ended ones too; the host a2; a pool lane a0, a1.
 abbrev pub serves_in : Scenario → State → ℕ → ℕ → Bool
 serves_in s st l a = serves_by_sort (lane_sort s l) (is_member a (slice_index_or st.made l [])) a
 
+-- The dying objects of the apartments that a lane serves, in the order in which their Finals are due.
 abbrev pub dying_in : Scenario → State → ℕ → List ℕ
 dying_in s st l = filter (λ o. dies_in s st o && serves_in s st l (named_in st o)) st.fallen
 
+-- All that the rules look at, as the tables have it.
 abbrev pub sight_of : Scenario → State → Sight
 sight_of s st = record {
   openers = openers_in st;
@@ -274,11 +302,13 @@ abbrev pub grown : {X : Type 0} → Bool → X → List X → List X
 grown false x xs = xs
 grown true x xs = xs ++ x ∷ []
 
+-- Whether an entry is an Out, which gives a new call its row.
 abbrev pub issued_by : Entry → Bool
 issued_by e = is_some (issues e.lane e.deed)
 
 -- ---- what an entry changes in a table: one row, or none
 
+-- A row after what an entry does to it; where it does nothing to it, the row as it was.
 abbrev pub changed : {X : Type 0} → Option (X → X) → X → X
 changed None x = x
 changed (Some f) x = f x
@@ -294,6 +324,7 @@ changed_from_one None k d t = t
 changed_from_one (Some f) zero d t = t
 changed_from_one (Some f) (suc k) d t = slice_set t k (f (slice_index_or t k d))
 
+-- What a deed does to the openers of its lane: it adds one as the innermost, takes the innermost away, or neither.
 abbrev pub opens : Effect → Option (List Opener → List Opener)
 opens (Opens o) = Some (λ os. o ∷ os)
 opens (Closes c) = Some without_first
@@ -305,24 +336,31 @@ serves_more (Opens (Pumps n)) os = Some (λ k. 0)
 serves_more (Closes (Leaves c)) os = Some (left_on (Closes (Leaves c)) os)
 serves_more _ os = None
 
+-- What a deed does to the home of its lane: an Init gives the home that it names, an Uninit the one before it or,
+-- with count 0, none; every other deed leaves the home.
 abbrev pub homes_change : HomeEffect → Option (Option ℕ → Option ℕ)
 homes_change (Initialises a hr) = Some (home_after (Initialises a hr))
 homes_change (Uninitialises a n) = Some (home_after (Uninitialises a n))
 homes_change Remains = None
 
+-- What a deed does to the count of its lane: an Init that succeeds adds 1, an Uninit sets the count that it
+-- names; every other deed leaves the count.
 abbrev pub counts_change : HomeEffect → Option (ℕ → ℕ)
 counts_change (Initialises a hr) = Some (count_after (Initialises a hr))
 counts_change (Uninitialises a n) = Some (count_after (Uninitialises a n))
 counts_change Remains = None
 
+-- An STA that a deed makes goes behind those that its lane made before; any other deed leaves these.
 abbrev pub made_change : Option ℕ → Option (List ℕ → List ℕ)
 made_change None = None
 made_change (Some a) = Some (λ as'. as' ++ a ∷ [])
 
+-- An End makes its lane be over; every other deed leaves the lane as it was, over or not.
 abbrev pub over_change : Bool → Option (Bool → Bool)
 over_change true = Some (λ b. true)
 over_change false = None
 
+-- What a deed does to the filter of its lane: it names one, or takes away the one before, or leaves it.
 abbrev pub filters_change : FilterEffect → Option (Option ℕ → Option ℕ)
 filters_change (Names f) = Some (λ g. f)
 filters_change KeepsFilter = None
@@ -332,6 +370,8 @@ abbrev pub mail_lane : ℕ → Deed → ℕ
 mail_lane l (deed.Post (pos m) w hr) = m
 mail_lane l _ = l
 
+-- What a deed does to the words and marks of a lane: a Post with S_OK brings a word, a Word takes the first, a Pending
+-- asks, a Back forgets the mark of its call.
 abbrev pub mail_change : Deed → Option (Mail → Mail)
 mail_change (deed.Post (pos m) w hr) = where_true (is_S_OK hr) (mail_after (Brings w))
 mail_change (deed.Word w) = Some (mail_after Takes)
@@ -339,27 +379,34 @@ mail_change (deed.Pending c w n) = Some (mail_after (Asks c n))
 mail_change (deed.Back c hr v) = Some (mail_after (Forgets c))
 mail_change _ = None
 
+-- A Quit is for the lane that it names; any other deed can only touch the quit of its own lane.
 abbrev pub quit_lane : ℕ → Deed → ℕ
 quit_lane l (deed.Quit (pos m) hr) = m
 quit_lane l _ = l
 
+-- A Quit with S_OK makes a quit stand. An EndPump that comes of a quit, not of the pump's bound, uses it up.
 abbrev pub quit_change : (by_quit : Bool) → Deed → Option (Bool → Bool)
 quit_change own (deed.Quit (pos m) hr) = where_true (is_S_OK hr) (λ b. true)
 quit_change own deed.EndPump = where_true own (λ b. false)
 quit_change own _ = None
 
+-- The table of Enters, by call: an Enter fills the row of its call.
 abbrev pub admissions_by : Option Admission → List (Option Admission) → List (Option Admission)
 admissions_by None t = t
 admissions_by (Some a) t = changed_from_one (Some (λ x. Some a)) a.call None t
 
+-- The table of Leaves, by call: a Leave fills the row of its call.
 abbrev pub leavings_by : Option Leaving → List (Option Leaving) → List (Option Leaving)
 leavings_by None t = t
 leavings_by (Some a) t = changed_from_one (Some (λ x. Some a)) a.call None t
 
+-- Which calls are back: a Back marks the row of its call.
 abbrev pub returned_by : Option ℕ → List Bool → List Bool
 returned_by None t = t
 returned_by (Some c) t = changed_from_one (Some (λ b. true)) c false t
 
+-- The phases of calls after an entry that posts, judges, delays or gives up one of them. A delay ends at a time of
+-- the clock: so many milliseconds after `now`.
 abbrev pub phases_by : PostEffect → (now : ℕ) → List Phase → List Phase
 phases_by (Posts c) n t = changed_from_one (Some (λ p. Queued)) c Unposted t
 phases_by (Judges c v) n t = changed_from_one (Some (λ p. Judged v)) c Unposted t
@@ -376,6 +423,7 @@ ends_in st x c =
     ends x c (object_of (issue_in st c)) (named_in st (object_of (issue_in st c)))
     (can_be_cut (issue_in st c) (admitted_in st c))
 
+-- The endings of calls after an entry. A call that has one keeps it, since the first entry that fixes it counts.
 abbrev pub endings_by : State → EndEffect → List (Option Ending) → List (Option Ending)
 endings_by st EndsNone t = t
 endings_by st (EndsCall c x) t = changed_from_one (Some (λ y. or_else y (Some x))) c None t
@@ -425,6 +473,7 @@ refusals_after s st e =
     ((sight_of s st).act e.lane)))
     st.refusals
 
+-- Whether the entry is an Out on a route that marshals, which are switch and post.
 abbrev pub is_marshalled_by : Option Issue → Bool
 is_marshalled_by None = false
 is_marshalled_by (Some i) = is_marshalled i.route
@@ -434,10 +483,12 @@ abbrev pub enters : Option Admission → ℕ → Bool
 enters None c = false
 enters (Some a) c = a.call == c
 
+-- The values of a call, and none once they are let go.
 abbrev pub let_go : Bool → List Value → List Value
 let_go true vs = []
 let_go false vs = vs
 
+-- The values that calls sent and nobody has read yet: a call that is entered or answered by the entry has none left.
 abbrev pub unread_by : State → Option Admission → EndEffect → List (List Value) → List (List Value)
 unread_by st None EndsNone t = t
 unread_by st None (EndsCall c x) t = changed_from_one (Some (λ vs. [])) c [] t
@@ -461,6 +512,7 @@ scene_tables s st w = record {
   destinations = tabulated (length st.issues + 1) w.destinations;
 }
 
+-- Books as tables: a row for each apartment and declared interface, and for objects and calls from the unused 0 on.
 abbrev pub book_tables : Scenario → State → Books → BookTables
 book_tables s st b = record {
   stub = tabulated (objects_in st + 1) (λ o. tabulated (length s.classes.interfaces) (b.stub o));
@@ -474,11 +526,13 @@ book_tables s st b = record {
   result = tabulated (length st.issues + 1) b.result;
 }
 
+-- The scene after an entry. Who acts in its lane is judged both before it and after it.
 abbrev pub scene_next : Scenario → (before after : State) → Entry → Scene
 scene_next s st su e =
     scene_after s (class_in st) (named_in st) (issue_in st) (actor_of s st e.lane)
     (actor_of s su e.lane) e.lane e.deed (scene_in st)
 
+-- The books after an entry: what its lane does, and in which apartment, is judged before it, places after it.
 abbrev pub books_next : Scenario → (before after : State) → Scene → Entry → Books
 books_next s st su w e =
     closed s (ground_in s su) w e.deed
@@ -489,6 +543,7 @@ books_next s st su w e =
 abbrev pub with_fallen : Scenario → State → State
 with_fallen s st = record st { fallen = fallen_more (dies_in s st) (objects_in st) st.fallen }
 
+-- The state with this scene and these books, and with the objects that are dying by them.
 abbrev pub with_books : Scenario → State → Scene → Books → State
 with_books s st w b = with_fallen s (record st { scene = scene_tables s st w; books = book_tables s st b })
 
@@ -503,6 +558,7 @@ after_by s st su vs e = completed s st su vs (scene_next s st su e) e
 abbrev pub after_entry : Scenario → State → Entry → State
 after_entry s st e = after_by s st (tables_after s st e) (unread_after s st e) e
 
+-- The state after lane l made the deed.
 abbrev pub after : Scenario → State → (lane : ℕ) → Deed → State
 after s st l d = after_entry s st (record { lane = l; deed = d })
 
@@ -564,6 +620,7 @@ pub record SameScene (w x : Scene) : Type 0 where
   pub buffers : (p : ℕ) → w.buffers p ≡ x.buffers p
   pub destinations : (c : ℕ) → w.destinations c ≡ x.destinations c
 
+-- Two books that agree for every object, interface, apartment and call, and have the same packets and cookies.
 pub record SameBooks (b c : Books) : Type 0 where
   pub stub : (o i : ℕ) → b.stub o i ≡ c.stub o i
   pub proxy : (a o i : ℕ) → b.proxy a o i ≡ c.proxy a o i

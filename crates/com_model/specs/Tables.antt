@@ -21,18 +21,23 @@ pub data LaneSort : Type 0 where
   Pool : LaneSort
   NoLane : LaneSort
 
+-- How many threads the scenario has. Their lanes have the numbers from 1 to this.
 abbrev pub threads : Scenario → ℕ
 threads s = length s.threads
 
+-- The lane of the host STA, directly behind those of the threads.
 abbrev pub host_lane : Scenario → ℕ
 host_lane s = threads s + 1
 
+-- The highest lane, which is the last of the pool: so many lanes there are beside the clock's lane 0.
 abbrev pub lanes : Scenario → ℕ
 lanes s = host_lane s + s.pool
 
+-- Whether the number is the lane of a thread.
 abbrev pub is_thread : Scenario → ℕ → Bool
 is_thread s l = nat_le 1 l && nat_le l (threads s)
 
+-- The sort of the lane with a number: NoLane is the clock's lane 0, and each number above the highest lane.
 abbrev pub lane_sort : Scenario → ℕ → LaneSort
 lane_sort s l =
     if l == 0 then NoLane
@@ -53,10 +58,12 @@ abbrev pub filter_rules : Scenario → ℕ → List Rule
 filter_rules s zero = []
 filter_rules s (suc f) = slice_index_or s.filters f []
 
+-- The kinds of a method's parameters, in their order; none for a method that is not in the interface's table.
 abbrev pub parameters : Option Method → List Kind
 parameters None = []
 parameters (Some m) = m.params
 
+-- The kind of a method's result; none where it declares no result, or is not in the interface's table.
 abbrev pub result_kind : Option Method → Option Kind
 result_kind None = None
 result_kind (Some m) = m.result
@@ -66,6 +73,7 @@ abbrev pub class_number : Scenario → Asked → Option ℕ
 class_number s (asked.Number c) = option_map (λ k. c) (class_at s.classes c)
 class_number s (asked.Guid g) = find_class s.classes g
 
+-- The number of the interface that is asked for by its number or its IID; none where it is not declared.
 abbrev pub interface_number : Scenario → Asked → Option ℕ
 interface_number s (asked.Number i) = option_map (λ k. i) (interface_at s.classes i)
 interface_number s (asked.Guid g) = find_interface s.classes g
@@ -80,5 +88,6 @@ abbrev pub has_agile_model : Option Class → Bool
 has_agile_model None = false
 has_agile_model (Some k) = is_agile k.model
 
+-- Whether the class with this number has the model Agile, so that every apartment owns its objects.
 abbrev pub is_agile_class : Scenario → ℕ → Bool
 is_agile_class s c = has_agile_model (class_at s.classes c)

@@ -54,21 +54,25 @@ abbrev pub bytes_text : Option (List ℕ) → List ℕ
 bytes_text None = codes "-"
 bytes_text (Some bytes) = encode_lower bytes
 
+-- the kind of apartment that an Init asks for: single-threaded or multithreaded
 abbrev pub mode_text : Mode → List ℕ
 mode_text mode.Sta = codes "sta"
 mode_text mode.Mta = codes "mta"
 
+-- the mode in which a reference is marshalled: for one unmarshal, or as a strong or weak table packet
 abbrev pub marshal_mode_text : MarshalMode → List ℕ
 marshal_mode_text marshal_mode.Normal = codes "normal"
 marshal_mode_text marshal_mode.Strong = codes "strong"
 marshal_mode_text marshal_mode.Weak = codes "weak"
 
+-- the route of a call, which is `none` for a call that was refused at its issue
 abbrev pub route_text : Route → List ℕ
 route_text route.Direct = codes "direct"
 route_text route.Switch = codes "switch"
 route_text route.Post = codes "post"
 route_text route.Refused = codes "none"
 
+-- what a message filter answered to an incoming call
 abbrev pub verdict_text : Verdict → List ℕ
 verdict_text verdict.Handled = codes "handled"
 verdict_text verdict.Rejected = codes "rejected"
@@ -198,11 +202,13 @@ history_text version [] = []
 history_text version (entry ∷ older) =
     history_text version older ++ line_text version (length older + 1) entry
 
+-- what has become of an object: `released` after its Final, before it whether the object is connected
 abbrev pub object_state_text : ObjectState → List ℕ
 object_state_text object_state.Live = codes "live"
 object_state_text object_state.Disconnected = codes "disconnected"
 object_state_text object_state.Released = codes "released"
 
+-- how a history ended: all was done, nothing could go on, or it had as many entries as it may have
 abbrev pub ended_text : Ended → List ℕ
 ended_text ended.Ok = codes "ok"
 ended_text ended.Stuck = codes "stuck"

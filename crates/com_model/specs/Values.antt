@@ -40,6 +40,8 @@ abbrev pub given_or_default : Kind → Option Value → Value
 given_or_default k None = default_of k
 given_or_default k (Some v) = v
 
+-- What the result of a body travels as: one of its declared kind, and null for a marshalled reference to an
+-- object that is not connected. None on failure, or where the method declares no result.
 abbrev pub sent_result : (marshalled : Bool) → (live : ℕ → Bool) → HResult → Option Kind → Option Value
     → Option Value
 sent_result m live hr None v = None
@@ -52,6 +54,7 @@ carried [] = []
 carried (value.Ref (Some r) ∷ vs) = r ∷ carried vs
 carried (_ ∷ vs) = carried vs
 
+-- The result as a list, of one value or of none.
 abbrev pub result_list : Option Value → List Value
 result_list None = []
 result_list (Some v) = v ∷ []
@@ -71,6 +74,7 @@ wires (value.Ref (Some r) ∷ vs) fs = wire.Ref (first fs) ∷ wires vs (without
 abbrev pub cause_guid : ℕ → Guid
 cause_guid k = record { data1 = k; data2 = 0; data3 = 0; data4 = replicate 8 0 }
 
+-- The bytes of an Out: each reference of the arguments, if not null, takes the next of the packets' fields.
 abbrev pub request_bytes : (cause : ℕ) → List Value → List StdFields → List ℕ
 request_bytes k vs fs = this_text (this_of (cause_guid k)) ++ written_args (wires vs fs)
 
@@ -78,5 +82,6 @@ request_bytes k vs fs = this_text (this_of (cause_guid k)) ++ written_args (wire
 abbrev pub with_answer : HResult → List ℕ → List ℕ
 with_answer hr bytes = bytes ++ (zeros (gap (length bytes) 4) ++ number w32 hr.0)
 
+-- The bytes of a Leave: a reference as the result takes the first of the packets' fields, if it is not null.
 abbrev pub reply_bytes : HResult → Option Value → List StdFields → List ℕ
 reply_bytes hr v fs = that_text 0 ++ with_answer hr (written_args (wires (result_list v) fs))

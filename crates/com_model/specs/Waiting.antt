@@ -30,10 +30,13 @@ pub data PostEffect : Type 0 where
   GivesUp : (call : ℕ) → PostEffect
   PostsNone : PostEffect
 
+-- What a Retry with this answer does: below 0 it gives the call up, from 0 to 99 it posts it again at once,
+-- and from 100 on it delays it by that many milliseconds.
 abbrev pub retries : (call : ℕ) → ℤ → PostEffect
 retries c (negsuc n) = GivesUp c
 retries c (pos n) = if nat_lt n 100 then Posts c else Delays c n
 
+-- An Out by post, an Again, a Retry and a Verdict act on their call; every other deed acts on none.
 abbrev pub post_effect : Deed → PostEffect
 post_effect (deed.Out c o i m route.Post k bytes) = Posts c
 post_effect (deed.Again c) = Posts c
@@ -41,6 +44,8 @@ post_effect (deed.Retry c n) = retries c n
 post_effect (deed.Verdict c t v) = Judges c v
 post_effect _ = PostsNone
 
+-- Where call c stands after an effect at the clock `now`: a delay ends so many milliseconds later than that,
+-- and an effect on another call leaves c as it stood.
 abbrev pub phase_after : PostEffect → (now call : ℕ) → Phase → Phase
 phase_after (Posts d) t c p = if d == c then Queued else p
 phase_after (Judges d v) t c p = if d == c then Judged v else p
@@ -48,10 +53,13 @@ phase_after (Delays d ms) t c p = if d == c then Delayed (t + ms) else p
 phase_after (GivesUp d) t c p = if d == c then GivenUp else p
 phase_after PostsNone t c p = p
 
+-- Where a call stands since its last posting; Unposted where it was never posted.
 abbrev pub phase : List Entry → ℕ → Phase
 phase [] c = Unposted
 phase (e ∷ h) c = phase_after (post_effect e.deed) (clock h) c (phase h c)
 
+-- Whether a call was posted and has no Verdict since: it waits in an inbox, unless it was entered or has its
+-- answer.
 abbrev pub is_queued : Phase → Bool
 is_queued Queued = true
 is_queued _ = false
@@ -61,6 +69,7 @@ abbrev pub posted_last : PostEffect → List ℕ → List ℕ
 posted_last (Posts c) cs = filter (λ d. not (d == c)) cs ++ c ∷ []
 posted_last _ cs = cs
 
+-- All calls that were posted, in the order of their last posting, those that were entered or answered too.
 abbrev pub postings : List Entry → List ℕ
 postings [] = []
 postings (e ∷ h) = posted_last (post_effect e.deed) (postings h)
@@ -71,6 +80,7 @@ abbrev pub waits_in : Scenario → List Entry → ℕ → ℕ → Bool
 waits_in s h a c =
     named h (target h c) == a && (is_queued (phase h c) && (is_none (admitted h c) && is_none (ending s h c)))
 
+-- The calls that wait for admission to an apartment, the next to be admitted first.
 abbrev pub inbox : Scenario → List Entry → ℕ → List ℕ
 inbox s h a = filter (waits_in s h a) (postings h)
 
@@ -81,6 +91,7 @@ pub record Mail : Type 0 where
   pub words : List Word
   pub marks : List Mark
 
+-- The mail of a lane before the first entry: no word, and no mark.
 abbrev pub no_mail : Mail
 no_mail = record { posted = 0; words = []; marks = [] }
 
@@ -89,6 +100,7 @@ abbrev pub mark_of : List Mark → ℕ → ℕ
 mark_of [] c = 0
 mark_of (m ∷ ms) c = if m.call == c then m.number else mark_of ms c
 
+-- The marks of all Outs but that of call c.
 abbrev pub without_mark : ℕ → List Mark → List Mark
 without_mark c ms = filter (λ (m : Mark). not (m.call == c)) ms
 
@@ -106,6 +118,8 @@ abbrev pub brings : ℕ → ℤ → ℤ → HResult → MailEffect
 brings l (pos m) w hr = if m == l && is_S_OK hr then Brings w else Leaves
 brings l (negsuc m) w hr = Leaves
 
+-- What a deed does to the mail of lane l: a Post in any lane may bring it a word; a Word, a Pending and a
+-- Back change it only where they are the lane's own.
 abbrev pub mail_effect : ℕ → (own : Bool) → Deed → MailEffect
 mail_effect l own (deed.Post m w hr) = brings l m w hr
 mail_effect l own (deed.Word w) = if own then Takes else Leaves
@@ -113,13 +127,18 @@ mail_effect l own (deed.Pending c w n) = if own then Asks c n else Leaves
 mail_effect l own (deed.Back c hr v) = if own then Forgets c else Leaves
 mail_effect l own _ = Leaves
 
+-- The first of the words that is numbered above the mark, so that its Out was not asked about it yet; None
+-- where there is none.
 abbrev pub not_asked : ℕ → List Word → Option Word
 not_asked mark [] = None
 not_asked mark (w ∷ ws) = if nat_lt mark w.number then Some w else not_asked mark ws
 
+-- The words after a Pending with answer n about word number k: without that word where n is 2, else all.
 abbrev pub taken_if : (answer number : ℕ) → List Word → List Word
 taken_if n k ws = if n == 2 then filter (λ (w : Word). not (w.number == k)) ws else ws
 
+-- The mail after a Pending of call c with answer n: the mark of c is the number of the word that was asked
+-- about, which goes where n is 2. Without such a word nothing changes.
 abbrev pub asked_about : ℕ → ℕ → Option Word → Mail → Mail
 asked_about c n None m = m
 asked_about c n (Some w) m =
@@ -128,6 +147,7 @@ asked_about c n (Some w) m =
       marks = record { call = c; number = w.number } ∷ without_mark c m.marks;
     }
 
+-- The mail after what a deed does to it. A word that is brought gets the next number, and none comes twice.
 abbrev pub mail_after : MailEffect → Mail → Mail
 mail_after (Brings w) m =
     record m { posted = m.posted + 1; words = m.words ++ record { number = m.posted + 1; word = w } ∷ [] }
@@ -136,6 +156,7 @@ mail_after (Asks c n) m = asked_about c n (not_asked (mark_of m.marks c) m.words
 mail_after (Forgets c) m = record m { marks = without_mark c m.marks }
 mail_after Leaves m = m
 
+-- How many words were posted to a lane in a history, which were not taken, and the marks of its open Outs.
 abbrev pub mail : List Entry → ℕ → Mail
 mail [] l = no_mail
 mail (e ∷ h) l = mail_after (mail_effect l (e.lane == l) e.deed) (mail h l)

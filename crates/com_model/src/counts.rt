@@ -27,7 +27,8 @@ pub struct Counts {
     pub proxies: u64,
     /// The public references that outstanding normal packets carry.
     pub packets: u64,
-    /// One for each outstanding strong packet and each cookie that was not revoked.
+    /// One for each outstanding strong packet and each cookie that was not revoked, as long as the
+    /// object is connected.
     pub tables: u64,
     /// The public references that its stub counts: the three before it, added.
     pub stub: u64,

@@ -154,7 +154,8 @@ pub enum Deed {
         cause: u32,
         bytes: Option<ByteList>,
     },
-    /// A filter turned a call away, with the call type that it was asked with.
+    /// A filter turned a call away, with the call type that it was asked with. No entry of a legal
+    /// history carries `Verdict::Handled`: a call that a filter lets in gets no Verdict.
     Verdict {
         call: u32,
         call_type: u8,
@@ -203,7 +204,7 @@ pub enum Deed {
         word: i64,
         answer: u8,
     },
-    /// An object was disconnected from all callers.
+    /// An object was disconnected from all other apartments.
     Disconnect {
         object: Option<u32>,
         hr: HResult,

@@ -36,7 +36,7 @@ pub struct Issue {
     pub iface: u16,
     /// The number of the method in the interface's table, from 0.
     pub method: u16,
-    /// How the call goes, or `Route::None` where it was refused at its issue.
+    /// How the call goes, or `Route::Refused` where it was refused at its issue.
     pub route: Route,
     /// The number of its causality, from 1.
     pub cause: u32,
@@ -78,22 +78,35 @@ pub struct Making {
 /// What fixed a call's answer.
 #[derive(Debug, Drop)]
 pub enum Ending {
+    /// Its Out, which says that it was refused.
     AtIssue,
+    /// Its Refuse, with the HRESULT that stands there.
     AtAdmission(HResult),
+    /// A Verdict on it, where its caller's lane has no filter.
     ByVerdict(Verdict),
+    /// A Retry below 0, by which its caller's filter gave it up.
     ByRetry,
+    /// A Pending with answer 0, by which its caller's filter cancelled it.
     ByCancel,
+    /// The disconnection of its target, by a Disconnect or by the end of its STA, before it was
+    /// entered.
     ByDisconnection,
+    /// The Leave of its body, with the HRESULT and the value that stand there.
     ByLeave(HResult, Option<Value>),
 }
 
 /// Where a call stands since its last posting.
 #[derive(Debug, Clone, Copy)]
 pub enum Phase {
+    /// It was never posted.
     Unposted,
+    /// It was posted, and no Verdict on it came since.
     Queued,
+    /// This Verdict turned it away, and no Retry came since.
     Judged(Verdict),
+    /// A Retry lets it wait until this time, in milliseconds. An Again then posts it.
     Delayed { until: u64 },
+    /// A Retry below 0 gave it up.
     GivenUp,
 }
 

@@ -172,8 +172,8 @@ impl Objects {
     }
 }
 
-#[tactic(auto, using(crate::proofs::Kept::row_none, crate::proofs::Kept::row_some))]
 // The row of an object.
+#[tactic(auto, using(crate::proofs::Kept::row_none, crate::proofs::Kept::row_some))]
 fn row_at(rows: &[Row], object: u32) -> Option<Row>
     ensures { result ≡ row_of rows.now object }
 {

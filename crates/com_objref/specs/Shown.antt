@@ -13,6 +13,7 @@ use Rattle.objref.specs.declared.decoding.RefFault.{RefFault}
 use Rattle.objref.specs.Grammar.{Reference, standard, handler, custom}
 use Rattle.objref.specs.Reading.{objref_of, fault}
 use Rattle.com_objref.specs.declared.Shown.{Shown}
+use Rattle.com_objref.specs.declared.TheConstants.{NO_DIGITS}
 
 -- Numbers in lower-case hexadecimal digits, high digit first.
 abbrev pub hex32 : ℕ → List ℕ
@@ -53,7 +54,6 @@ unfoldable pub fault_text : RefFault → List ℕ
 fault_text f = codes "fault " ++ decimal f.number ++ codes " " ++ decimal f.at ++ codes "\n"
 
 -- A text without a line end at its very end.
-
 abbrev pub without_newline : List ℕ → List ℕ
 without_newline text = if slice_index text (length text - 1) == 10 then take (length text - 1) text else text
 
@@ -61,10 +61,10 @@ without_newline text = if slice_index text (length text - 1) == 10 then take (le
 abbrev pub wrong_position : List ℕ → ℕ
 wrong_position digits = unwrap_or (position (λ b. not (is_ascii_hexdigit b)) digits) (length digits)
 
--- What digits say: bytes, which are read, or a fault of the text.
+-- What digits say: bytes, which are read, or the fault NO_DIGITS of the text, where it is wrong.
 abbrev pub read_bytes : List ℕ → Option (List ℕ) → Result Reference RefFault
 read_bytes digits (Some bytes) = objref_of bytes
-read_bytes digits None = Err (fault 0 (wrong_position digits))
+read_bytes digits None = Err (fault NO_DIGITS (wrong_position digits))
 
 abbrev pub read_digits : List ℕ → Result Reference RefFault
 read_digits digits = read_bytes digits (unhexed digits)

@@ -16,6 +16,10 @@ use itoa::Buffer;
 use objref::{ObjRef, RefFault, decode};
 use std::alloc::Global;
 
+// The number of the fault of a text that is no pairs of hexadecimal digits. The faults of bytes have
+// other numbers: those of `RefFault` begin at 1.
+const NO_DIGITS: u8 = 0;
+
 /// What is shown of a text, and whether that is an OBJREF: else it is the line of a fault.
 #[derive(Debug, Drop)]
 pub struct Shown {
@@ -39,13 +43,15 @@ pub fn show(alloc: Global, text: &[u8]) -> Result<Shown, Memory>
         None => show_fault(
             alloc,
             RefFault {
-                number: 0,
+                number: NO_DIGITS,
                 at: wrong_position(digits),
             },
         ),
     }
 }
 
+// What is shown of bytes: the fields of the OBJREF that they are, or the line of their first fault.
+// The only error is want of memory.
 fn show_bytes(alloc: Global, bytes: &[u8]) -> Result<Shown, Memory>
     ensures { IfOk result (λ shown. shown ≡ shown_as (objref_of bytes.now)) }
 {
@@ -58,6 +64,7 @@ fn show_bytes(alloc: Global, bytes: &[u8]) -> Result<Shown, Memory>
     }
 }
 
+// The line of a fault: its number and its position. The only error is want of memory.
 #[tactic(auto, unfolding(crate::specs::Shown::fault_text))]
 fn show_fault(alloc: Global, fault: RefFault) -> Result<Shown, Memory>
     ensures { IfOk result (λ shown. shown ≡ record { is_found = false; text = fault_text fault }) }
@@ -121,6 +128,8 @@ pub fn describe(alloc: Global, found: &ObjRef) -> Result<ByteList, Memory>
     }
 }
 
+// Appends the lines of the fields that a standard and a handler reference share. The only error is
+// want of memory.
 #[tactic(auto, unfolding(crate::specs::Shown::fields_text))]
 fn push_fields(text: &mut ByteList, fields: &StdFields, flags: u32) -> Result<(), Memory>
     ensures { OnOk result (text.new ≡ fields_text text.old fields.now flags) }
@@ -140,6 +149,8 @@ fn push_fields(text: &mut ByteList, fields: &StdFields, flags: u32) -> Result<()
     text.push_all(b"\n")
 }
 
+// Appends the line of the string array: how many values it has, and where the security bindings
+// begin. The only error is want of memory.
 #[tactic(auto, unfolding(crate::specs::Shown::strings_text))]
 fn push_strings(text: &mut ByteList, entries: u16, security: u16) -> Result<(), Memory>
     ensures { OnOk result (text.new ≡ strings_text text.old entries security) }
@@ -151,6 +162,8 @@ fn push_strings(text: &mut ByteList, entries: u16, security: u16) -> Result<(), 
     text.push_all(b"\n")
 }
 
+// Puts the lines of a reference by custom marshalling into an empty text: of its data the length
+// alone. The only error is want of memory.
 #[tactic(auto, unfolding(crate::specs::Shown::custom_text))]
 fn push_custom(
     text: &mut ByteList,
@@ -174,6 +187,7 @@ fn push_custom(
     text.push_all(b"\n")
 }
 
+// Appends a number in decimal digits. The only error is want of memory.
 fn push_number(text: &mut ByteList, number: u64) -> Result<(), Memory>
     ensures { OnOk result (text.new ≡ text.old ++ decimal number) }
 {
@@ -181,6 +195,7 @@ fn push_number(text: &mut ByteList, number: u64) -> Result<(), Memory>
     text.push_all(buffer.format(number).as_bytes())
 }
 
+// Appends a number as eight lower-case hexadecimal digits. The only error is want of memory.
 fn push_hex32(text: &mut ByteList, number: u32) -> Result<(), Memory>
     ensures { OnOk result (text.new ≡ text.old ++ hex32 number) }
 {
@@ -191,6 +206,7 @@ fn push_hex32(text: &mut ByteList, number: u32) -> Result<(), Memory>
     }
 }
 
+// Appends a number as sixteen lower-case hexadecimal digits. The only error is want of memory.
 fn push_hex64(text: &mut ByteList, number: u64) -> Result<(), Memory>
     ensures { OnOk result (text.new ≡ text.old ++ hex64 number) }
 {
@@ -201,6 +217,7 @@ fn push_hex64(text: &mut ByteList, number: u64) -> Result<(), Memory>
     }
 }
 
+// A text without a line end at its very end.
 fn without_newline(text: &[u8]) -> &[u8]
     ensures { result.now ≡ without_newline text.now }
 {
@@ -210,6 +227,7 @@ fn without_newline(text: &[u8]) -> &[u8]
     }
 }
 
+// Where a text stops being hexadecimal digits: its first other character, or its end.
 fn wrong_position(digits: &[u8]) -> usize
     ensures { result ≡ wrong_position digits.now }
 {
@@ -219,6 +237,7 @@ fn wrong_position(digits: &[u8]) -> usize
     }
 }
 
+// The position of the first character that is no hexadecimal digit. None where each is one.
 fn first_wrong(digits: &[u8]) -> Option<usize>
     ensures { result ≡ position (λ b. not (is_ascii_hexdigit b)) digits.now }
 {

@@ -18,5 +18,6 @@ abbrev pub normal_for : ℕ → Option Packet → ℕ
 normal_for object None = 0
 normal_for object (Some packet) = if packet.object == object then normal_refs packet.mode packet.refs else 0
 
+-- The public references that the outstanding normal packets of an object hold together.
 abbrev pub normal_sum : ℕ → List (Option Packet) → ℕ
 normal_sum object entries = sum_by (normal_for object) entries

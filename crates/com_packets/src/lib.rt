@@ -5,7 +5,7 @@
 //! The numbers, and what of them is written into the OBJREF, are this project's.
 #![tactic(auto)]
 
-ghost use Rattle.std.specs.Prelude.{◌≡◌, ◌+◌, ◌<◌, ◌≤◌, ◌^◌, ℕ, [], ◌∷◌, ◌++◌, length, slice_index, OnOk};
+ghost use Rattle.std.specs.Prelude.{◌≡◌, ◌+◌, ◌-◌, ◌<◌, ◌≤◌, ◌^◌, ℕ, [], ◌∷◌, ◌++◌, length, slice_index, OnOk};
 ghost use Rattle.std.specs.Prelude.{OnErr, IfOk, IsOk, IfSome, IfNone, IsTrue, ◌↔◌, Some, None};
 ghost use Rattle.std.specs.Prelude.{option_copied};
 ghost use Rattle.std.specs.Int.{from_le_bytes, w64};
@@ -64,6 +64,7 @@ impl Packet {
         self.iface == iface && self.fields(number, fields.iid) == *fields
     }
 
+    // The public references that its bytes say it carries: a strong or a weak packet says 0.
     fn written_refs(&self) -> u32
         ensures { result ≡ written_refs self.now.mode self.now.refs }
     {
@@ -74,6 +75,8 @@ impl Packet {
         }
     }
 
+    // The interface pointer that stands for it in its bytes: its object, its interface, the low
+    // 16 bits of its owner, and its number.
     fn ipid(&self, number: u32) -> Guid
         ensures { result ≡ written_ipid self.now number }
     {
@@ -114,7 +117,7 @@ fn end_all(slots: &mut Slots<Packet>, chains: &Chains, object: u32)
     requires keyed { (index : ℕ)
         → IfSome (entry_at slots.old.entries index) (λ packet. packet.object
         ≡ slice_index chains.now.keys index) }
-    requires fits { length slots.old.entries ≤ 4294967295 }
+    requires fits { length slots.old.entries ≤ 2 ^ 32 - 1 }
     ensures entries { slots.new.entries ≡ cut_entries object slots.old.entries }
     ensures limit { slots.new.limit ≡ slots.old.limit }
     ensures spare { slots.new.spare ≡ slots.old.spare }
@@ -146,7 +149,7 @@ fn sum_normal(slots: &Slots<Packet>, chains: &Chains, object: u32) -> u64
     requires keyed { (index : ℕ)
         → IfSome (entry_at slots.now.entries index) (λ packet. packet.object
         ≡ slice_index chains.now.keys index) }
-    requires fits { length slots.now.entries ≤ 4294967295 }
+    requires fits { length slots.now.entries ≤ 2 ^ 32 - 1 }
     ensures { result ≡ normal_sum object slots.now.entries }
 {
     let mut sum = 0;
@@ -183,7 +186,7 @@ impl Packets {
         ensures entries { self.new.entries ≡ self.old.entries }
         ensures spare { self.old.spare ≤ self.new.spare }
     {
-        self.chains.reserve(n)?;
+        self.chains.reserve(n as usize)?;
         self.slots.reserve(n)
     }
 

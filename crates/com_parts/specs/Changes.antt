@@ -17,6 +17,7 @@ moment_at t l filtered clock = record {
   clock = clock;
 }
 
+-- The refusal and the values of the call that an Out issues. An entry that issues none has S_OK and no values.
 abbrev pub issuing_of : Option Sent → Issuing
 issuing_of None = record { refusal = S_OK; values = [] }
 issuing_of (Some x) = record { refusal = x.refusal; values = x.values }

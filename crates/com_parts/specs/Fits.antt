@@ -45,6 +45,8 @@ abbrev pub IsWriting : Option Outcome → Type 0
 IsWriting None = Unit {0}
 IsWriting (Some r) = WritesInRange r.action
 
+-- The parts take this entry of the lane at this clock: what it names was made or issued before, and its numbers
+-- are in their ranges.
 pub record Fits (l : LaneTables) (o : ObjectTables) (b : Kept) (lane : ℕ) (d : Deed)
     (clock : ℕ) : Type 0 where
   pub stas : NamesStas l d

@@ -24,6 +24,8 @@ pub(crate) fn owners_for(alloc: Global, objects: &Objects, deed: &Deed) -> Resul
     }
 }
 
+// The apartment of each object by its number, behind a 0 for the number 0, which no object has. The
+// only error is want of memory.
 #[tactic(auto, using(crate::proofs::Owned::owned_first, crate::proofs::Owned::owned_more, crate::proofs::Owned::owned_all))]
 fn owners(alloc: Global, objects: &Objects) -> Result<Vec<u32>, Memory>
     ensures { IfOk result (λ owners. (o : ℕ) →

@@ -44,9 +44,9 @@ impl Model for Parts {
 }
 
 impl Parts {
-    #[tactic(auto, using(crate::proofs::Wholes::whole_new))]
     /// The parts before the first entry of a scenario, which has so many lanes. The only error is want of
     /// memory.
+    #[tactic(auto, using(crate::proofs::Wholes::whole_new))]
     pub fn new(alloc: Global, scenario: &Scenario, lanes: u32) -> Result<Parts, Memory>
         requires { lanes ≡ all_lanes scenario.now }
         ensures lanes { IfOk result (λ parts. parts.lanes ≡ first_lanes (all_lanes scenario.now)) }

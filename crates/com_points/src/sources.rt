@@ -70,6 +70,7 @@ fn is_sta_model(model: ThreadingModel) -> bool
     }
 }
 
+// Whether a class runs bodies of statements, and is none of the built-in ones.
 fn is_bodies(native: Native) -> bool
     ensures { IsTrue result ↔ native ≡ Bodies }
 {
@@ -79,6 +80,7 @@ fn is_bodies(native: Native) -> bool
     }
 }
 
+// The number of the interface, where exactly one is declared.
 fn only_interface(interfaces: &[u16]) -> Option<u16>
     ensures some { IfSome result (λ iface. interfaces.now ≡ iface ∷ []) }
     ensures none { IfNone result ((iface : ℕ) → interfaces.now ≡ iface ∷ [] → ⊥) }
@@ -96,6 +98,7 @@ fn is_point(interface: &Interface) -> bool
     is_point_iid(interface.iid) && are_point_methods(interface.methods.as_slice())
 }
 
+// Whether an IID is that of a source's interface.
 fn is_point_iid(iid: Guid) -> bool
     ensures { IsTrue result ↔ iid ≡ point_iid }
 {
@@ -105,6 +108,7 @@ fn is_point_iid(iid: Guid) -> bool
         && iid.data4.as_slice() == [0x80, 0, 0, 0, 0, 0, 0, 1].as_slice()
 }
 
+// Whether these are the three methods of a source's interface, in their order.
 fn are_point_methods(methods: &[Method]) -> bool
     ensures { IsTrue result ↔ methods.now ≡ point_methods }
 {
@@ -118,6 +122,7 @@ fn are_point_methods(methods: &[Method]) -> bool
     }
 }
 
+// Whether a method has this name, one parameter of this kind, and this kind of result, or none.
 fn is_method(method: &Method, name: &[u8], param: Kind, answer: Option<Kind>) -> bool
     ensures { IsTrue result
         ↔ method.now ≡ record { name = name.now; params = param ∷ []; result = answer } }
@@ -127,6 +132,7 @@ fn is_method(method: &Method, name: &[u8], param: Kind, answer: Option<Kind>) ->
         && is_result(method.result, answer)
 }
 
+// Whether a method's result is of the wanted kind, or is missing where none is wanted.
 fn is_result(kind: Option<Kind>, wanted: Option<Kind>) -> bool
     ensures { IsTrue result ↔ kind ≡ wanted }
 {
@@ -137,6 +143,7 @@ fn is_result(kind: Option<Kind>, wanted: Option<Kind>) -> bool
     }
 }
 
+// Whether there is one parameter, of this kind.
 fn is_one_kind(kinds: &[Kind], kind: Kind) -> bool
     ensures { IsTrue result ↔ kinds.now ≡ kind ∷ [] }
 {
@@ -158,6 +165,7 @@ fn are_own_bodies(bodies: &[MethodBody], iface: u16) -> bool
     true
 }
 
+// Whether a class gives the body of `advise` for the first method of this interface.
 fn has_advise(classes: &Classes, class: u32, iface: u16) -> bool
     ensures { IsTrue result ↔ body_at classes.now class iface 0 ≡ Some advise_body }
 {
@@ -167,6 +175,7 @@ fn has_advise(classes: &Classes, class: u32, iface: u16) -> bool
     }
 }
 
+// Whether a class gives the body of `unadvise` for the second method of this interface.
 fn has_unadvise(classes: &Classes, class: u32, iface: u16) -> bool
     ensures { IsTrue result ↔ body_at classes.now class iface 1 ≡ Some unadvise_body }
 {
@@ -176,6 +185,7 @@ fn has_unadvise(classes: &Classes, class: u32, iface: u16) -> bool
     }
 }
 
+// Whether a class gives the body of `fire` for the third method of this interface.
 fn has_fire(classes: &Classes, class: u32, iface: u16) -> bool
     ensures { IsTrue result ↔ body_at classes.now class iface 2 ≡ Some fire_body }
 {

@@ -25,9 +25,11 @@ use Rattle.com_print.specs.Spelled.{is_text_byte}
 
 -- ---- the ranges that the types give
 
+-- each number of a list is a byte
 abbrev pub AreBytes : List ℕ → Type 0
 AreBytes bytes = All (λ b. b < 256) bytes
 
+-- a GUID's fields have their widths: 32 bits, 16 bits, 16 bits and eight bytes
 pub record IsGuid (g : Guid) : Type 0 where
   pub data1 : g.data1 < 2 ^ 32
   pub data2 : g.data2 < 2 ^ 16
@@ -40,16 +42,19 @@ abbrev pub IsWhole : ℤ → Type 0
 IsWhole (pos n) = n < 2 ^ 63
 IsWhole (negsuc n) = n < 2 ^ 63
 
+-- a whole number has 64 bits, bytes are bytes, a GUID's fields have their widths; of other values nothing is asked
 abbrev pub FitsValue : Value → Type 0
 FitsValue (values.Int number) = IsWhole number
 FitsValue (values.Bytes bytes) = AreBytes bytes
 FitsValue (values.Guid guid) = IsGuid guid
 FitsValue _ = Unit {0}
 
+-- the value of a literal fits its type; of a register nothing is asked
 abbrev pub FitsOp : Op → Type 0
 FitsOp (ops.Register n) = Unit {0}
 FitsOp (ops.Literal value) = FitsValue value
 
+-- a literal that is an argument fits its type; of a register, a slot and null nothing is asked
 abbrev pub FitsArg : Arg → Type 0
 FitsArg (args.Op op) = FitsOp op
 FitsArg _ = Unit {0}
@@ -58,10 +63,12 @@ abbrev pub FitsAsked : Asked → Type 0
 FitsAsked (askeds.Number n) = Unit {0}
 FitsAsked (askeds.Guid guid) = IsGuid guid
 
+-- a literal HRESULT has 32 bits; of a register nothing is asked
 abbrev pub FitsCode : Code → Type 0
 FitsCode (answers.Literal answer) = answer.0 < 2 ^ 32
 FitsCode (answers.Register n) = Unit {0}
 
+-- a literal that a body gives fits its type; of a register, a slot and no result nothing is asked
 abbrev pub FitsGiven : Given → Type 0
 FitsGiven (gifts.Op op) = FitsOp op
 FitsGiven _ = Unit {0}
@@ -93,10 +100,12 @@ IsLiteral (values.Bytes bytes) = length bytes ≤ LITERAL_LIMIT
 IsLiteral (values.Ref held) = ⊥
 IsLiteral _ = Unit {0}
 
+-- a register, or a value that has a literal
 abbrev pub TakesOp : Op → Type 0
 TakesOp (ops.Register n) = Unit {0}
 TakesOp (ops.Literal value) = IsLiteral value
 
+-- what a body may give: nothing, a slot, a register, or a value that has a literal
 abbrev pub TakesGiven : Given → Type 0
 TakesGiven (gifts.Op op) = TakesOp op
 TakesGiven _ = Unit {0}

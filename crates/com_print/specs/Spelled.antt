@@ -12,6 +12,7 @@ pub record Spelled : Type 0 where
   pub sort : Sort
   pub bytes : List ℕ
 
+-- a word of these bytes that is no literal
 abbrev pub plain : List ℕ → Spelled
 plain bytes = record { sort = sorts.Plain; bytes = bytes }
 
@@ -59,6 +60,7 @@ IsSpelledAs _ bytes = ⊥
 abbrev pub IsSpelled : Spelled → Type 0
 IsSpelled w = IsSpelledAs w.sort w.bytes
 
+-- each of these is a good word
 abbrev pub AreSpelled : List Spelled → Type 0
 AreSpelled [] = Unit {0}
 AreSpelled (w ∷ ws) = IsSpelled w × AreSpelled ws
@@ -80,9 +82,11 @@ abbrev pub words_text : List Spelled → List ℕ
 words_text [] = []
 words_text (w ∷ ws) = w.bytes ++ more_text ws
 
+-- a line: its words joined by spaces, and the line feed that ends it
 abbrev pub line_text : List Spelled → List ℕ
 line_text ws = words_text ws ++ 10 ∷ []
 
+-- lines, each with the line feed that ends it
 abbrev pub text_of : List (List Spelled) → List ℕ
 text_of [] = []
 text_of (l ∷ ls) = line_text l ++ text_of ls

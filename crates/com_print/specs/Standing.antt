@@ -22,6 +22,7 @@ use Rattle.com_print.specs.Ranges.{TakesOp, TakesGiven, TakesPlace, AreNames, Is
 
 -- ---- names
 
+-- the names of methods, in their order
 abbrev pub names_of : List Method → List (List ℕ)
 names_of [] = []
 names_of (m ∷ ms) = m.name ∷ names_of ms
@@ -43,6 +44,7 @@ IsClass names asked = IsNamed names.classes 1 asked
 abbrev pub IsInterface : Names → Asked → Type 0
 IsInterface names asked = IsNamed names.interfaces 0 asked
 
+-- no filter, or a declared one by its number from 1
 abbrev pub IsFilter : Names → Option ℕ → Type 0
 IsFilter names None = Unit {0}
 IsFilter names (Some n) = (1 ≤ n) × (n ≤ length names.filters)
@@ -54,6 +56,7 @@ TakesArg (kinds.Ref i) _ = Unit {0}
 TakesArg _ (args.Op op) = TakesOp op
 TakesArg _ _ = ⊥
 
+-- as many arguments as parameters, and each is one that its parameter's kind takes
 abbrev pub TakesArgs : List Kind → List Arg → Type 0
 TakesArgs [] [] = Unit {0}
 TakesArgs (k ∷ ks) (a ∷ more) = TakesArg k a × TakesArgs ks more
@@ -68,6 +71,7 @@ TakesResult (Some (kinds.Ref i)) (destinations.Register n) = ⊥
 TakesResult (Some k) (destinations.Register n) = Unit {0}
 TakesResult (Some k) (destinations.Slot n) = ⊥
 
+-- The method takes these arguments, and its result can go there. No call stands of a method that the table lacks.
 abbrev pub TakesMethod : Option Method → List Arg → Destination → Type 0
 TakesMethod None given to = ⊥
 TakesMethod (Some m) given to = TakesArgs m.params given × TakesResult m.result to

@@ -22,6 +22,7 @@ use Rattle.com_print.specs.Words.{mode_word, marshal_mode_word, name_at, asked_w
 abbrev pub class_word : Names → Asked → Spelled
 class_word names asked = asked_word names.classes 1 asked
 
+-- an interface by its name or as a GUID; interfaces count from 0
 abbrev pub interface_word : Names → Asked → Spelled
 interface_word names asked = asked_word names.interfaces 0 asked
 
@@ -30,6 +31,7 @@ abbrev pub filter_word : Names → Option ℕ → Spelled
 filter_word names None = plain (codes "none")
 filter_word names (Some n) = plain (name_at names.filters (n - 1))
 
+-- a method's name, and no bytes where there is no such method
 abbrev pub name_of : Option Method → List ℕ
 name_of None = []
 name_of (Some m) = m.name
@@ -56,6 +58,7 @@ target_word names iface method given to =
 
 -- ---- statements
 
+-- the words of a statement's line: its keyword, and its operands in the language's order
 abbrev pub statement_words : Names → Stmt → List Spelled
 statement_words names (stmts.Set to from) = plain (codes "set") ∷ register_word to ∷ op_word from ∷ []
 statement_words names (stmts.Add to from) = plain (codes "add") ∷ register_word to ∷ op_word from ∷ []

@@ -30,6 +30,7 @@ use Rattle.com_print.specs.Spelled.{Spelled, plain, text_word, bytes_word}
 abbrev pub register_word : ℕ → Spelled
 register_word n = plain (114 ∷ decimal n)
 
+-- a slot: `s` and its number
 abbrev pub slot_word : ℕ → Spelled
 slot_word n = plain (115 ∷ decimal n)
 
@@ -84,6 +85,7 @@ destination_words destinations.Nowhere = []
 destination_words (destinations.Register n) = plain (codes "->") ∷ register_word n ∷ []
 destination_words (destinations.Slot n) = plain (codes "->") ∷ slot_word n ∷ []
 
+-- the mode of an `init`, which is `sta` or `mta`
 abbrev pub mode_word : Mode → Spelled
 mode_word modes.Sta = plain (codes "sta")
 mode_word modes.Mta = plain (codes "mta")

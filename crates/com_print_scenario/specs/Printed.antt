@@ -3,6 +3,7 @@
 use Rattle.std.specs.Prelude.{ℕ, zero, suc, ◌+◌, List, [], ◌∷◌, ◌++◌, map, drop, Option, Some, None, codes}
 use Rattle.std.specs.Prelude.{decimal}
 use Rattle.std.specs.Fmt.{signed_decimal}
+use Rattle.com_base.specs.declared.built_ins.TheConstants.{BUILT_IN_COUNT}
 use Rattle.com_base.specs.declared.value.Kind.{Kind}
 use Rattle.com_base.specs.declared.value.Kind.TheVariants as kinds
 use Rattle.com_base.specs.Guids.{text_of as text_of_guid}
@@ -172,9 +173,11 @@ filters_lines n (f ∷ fs) = filter_words n ∷ (rules_lines f ++ filters_lines 
 
 -- ---- threads and picks
 
+-- the line that opens a thread's script
 abbrev pub thread_words : List Spelled
 thread_words = plain (codes "thread") ∷ []
 
+-- the threads' scripts in their order: for each the line that opens it, its statements and the line that ends it
 abbrev pub threads_lines : Names → List (List Stmt) → List (List Spelled)
 threads_lines names [] = []
 threads_lines names (b ∷ bs) = thread_words ∷ (program_lines names b ++ threads_lines names bs)
@@ -188,10 +191,11 @@ picks_lines (p ∷ ps) = (plain (codes "picks") ∷ map number_word (p ∷ ps)) 
 
 abbrev pub sections_lines : Names → Scenario → List (List Spelled)
 sections_lines names s =
-    interface_lines names.interfaces (drop 4 s.classes.interfaces)
+    interface_lines names.interfaces (drop BUILT_IN_COUNT s.classes.interfaces)
     ++ (classes_lines names s.classes.classes
     ++ (filters_lines 1 s.filters ++ (threads_lines names s.threads ++ picks_lines s.picks)))
 
+-- the lines of a scenario: the header, the pool's, and those of its sections
 unfoldable pub scenario_lines : Scenario → List (List Spelled)
 scenario_lines s = header_words s.version ∷ pool_words s.pool ∷ sections_lines (names_in s) s
 

@@ -60,6 +60,7 @@ fn push_bodies(out: &mut ByteList, names: &Names, bodies: &[MethodBody]) -> Resu
     out.push_all(b"end\n")
 }
 
+// Appends the word of a threading model.
 fn push_model(out: &mut ByteList, model: ThreadingModel) -> Result<(), Memory>
     ensures { OnOk result (out.new ≡ out.old ++ more_text (model_word model ∷ [])) }
 {
@@ -84,6 +85,7 @@ fn push_class_head(out: &mut ByteList, keyword: &[u8], class: &Class) -> Result<
     push_model(out, class.model)
 }
 
+// Appends the names of the interfaces that a class lists, in its order.
 #[tactic(auto, using(crate::proofs::Pieces::listed_first))]
 fn push_listed(out: &mut ByteList, names: &Names, interfaces: &[u16]) -> Result<(), Memory>
     ensures { OnOk result (out.new ≡ out.old ++ more_text (map (interface_name names.now) interfaces.now)) }

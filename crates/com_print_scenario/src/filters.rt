@@ -17,6 +17,7 @@ use com_print::words::push_end;
 use com_read_statements::Names;
 use itoa::Buffer;
 
+// Appends the word of a verdict.
 fn push_verdict(out: &mut ByteList, verdict: Verdict) -> Result<(), Memory>
     ensures { OnOk result (out.new ≡ out.old ++ more_text (verdict_word verdict ∷ [])) }
 {
@@ -27,6 +28,7 @@ fn push_verdict(out: &mut ByteList, verdict: Verdict) -> Result<(), Memory>
     }
 }
 
+// Appends the call type that an `incoming` rule is for, or `*` where it is for any.
 fn push_type(out: &mut ByteList, call_type: Option<u8>) -> Result<(), Memory>
     ensures { OnOk result (out.new ≡ out.old ++ more_text (type_word call_type ∷ [])) }
 {
@@ -36,6 +38,7 @@ fn push_type(out: &mut ByteList, call_type: Option<u8>) -> Result<(), Memory>
     }
 }
 
+// Appends the verdict that a `retry` rule is for, or `*` where it is for any.
 fn push_refusal(out: &mut ByteList, verdict: Option<Verdict>) -> Result<(), Memory>
     ensures { OnOk result (out.new ≡ out.old ++ more_text (refusal_word verdict ∷ [])) }
 {
@@ -45,6 +48,7 @@ fn push_refusal(out: &mut ByteList, verdict: Option<Verdict>) -> Result<(), Memo
     }
 }
 
+// Appends the answer of a `pending` rule as a word: 0 is cancel, 1 is wait, and all else discard.
 #[tactic(auto, using(crate::proofs::Pieces::kept_other))]
 fn push_kept(out: &mut ByteList, answer: u8) -> Result<(), Memory>
     ensures { OnOk result (out.new ≡ out.old ++ more_text (kept_word answer ∷ [])) }
@@ -56,6 +60,7 @@ fn push_kept(out: &mut ByteList, answer: u8) -> Result<(), Memory>
     }
 }
 
+// Appends the words of an `incoming` rule.
 fn push_incoming(
     out: &mut ByteList,
     call_type: Option<u8>,
@@ -71,6 +76,7 @@ fn push_incoming(
     push_verdict(out, verdict)
 }
 
+// Appends the words of a `retry` rule. Its answer may be below 0.
 fn push_retry(
     out: &mut ByteList,
     verdict: Option<Verdict>,
@@ -86,6 +92,7 @@ fn push_retry(
     push_signed(out, answer)
 }
 
+// Appends the words of a `pending` rule.
 fn push_pending(out: &mut ByteList, ms: u32, answer: u8) -> Result<(), Memory>
     ensures { OnOk result (out.new ≡ out.old
         ++ words_text (plain (codes "pending") ∷ number_word ms ∷ kept_word answer ∷ [])) }
@@ -95,6 +102,7 @@ fn push_pending(out: &mut ByteList, ms: u32, answer: u8) -> Result<(), Memory>
     push_kept(out, answer)
 }
 
+// Appends a rule's words, without the end of the line.
 fn push_rule_words(out: &mut ByteList, rule: &Rule) -> Result<(), Memory>
     ensures { OnOk result (out.new ≡ out.old ++ words_text (rule_words rule.now)) }
 {
@@ -134,6 +142,7 @@ fn push_rules(out: &mut ByteList, rules: &[Rule]) -> Result<(), Memory>
     out.push_all(b"end\n")
 }
 
+// Appends the line that opens a filter and names it by its number.
 fn push_filter_head(out: &mut ByteList, number: usize) -> Result<(), Memory>
     ensures { OnOk result (out.new ≡ out.old ++ line_text (filter_words number)) }
 {
@@ -174,6 +183,7 @@ pub(crate) fn push_threads(
     Ok(())
 }
 
+// Appends numbers, with a space before each.
 #[tactic(auto, using(crate::proofs::Pieces::pick_first))]
 fn push_numbers(out: &mut ByteList, numbers: &[u32]) -> Result<(), Memory>
     ensures { OnOk result (out.new ≡ out.old ++ more_text (map number_word numbers.now)) }

@@ -26,6 +26,7 @@ fn push_kind(out: &mut ByteList, names: &[ByteList], kind: Kind) -> Result<(), M
     }
 }
 
+// Appends the types of a method's parameters, in their order.
 #[tactic(auto, using(crate::proofs::Pieces::kind_first))]
 fn push_kinds(out: &mut ByteList, names: &[ByteList], kinds: &[Kind]) -> Result<(), Memory>
     ensures { OnOk result (out.new ≡ out.old ++ more_text (map (kind_word names.now) kinds.now)) }
@@ -38,6 +39,7 @@ fn push_kinds(out: &mut ByteList, names: &[ByteList], kinds: &[Kind]) -> Result<
     Ok(())
 }
 
+// Appends `->` and the type of a method's result, or nothing where it has no result.
 fn push_result(out: &mut ByteList, names: &[ByteList], kind: Option<Kind>) -> Result<(), Memory>
     ensures { OnOk result (out.new ≡ out.old ++ more_text (result_words names.now kind)) }
 {
@@ -68,6 +70,7 @@ fn push_method(out: &mut ByteList, names: &[ByteList], method: &Method) -> Resul
     push_end(out)
 }
 
+// Appends a line for each method, in the order of their numbers.
 #[tactic(auto, using(crate::proofs::Pieces::method_first))]
 fn push_methods(out: &mut ByteList, names: &[ByteList], methods: &[Method]) -> Result<(), Memory>
     ensures { OnOk result (out.new ≡ out.old ++ text_of (map (method_words names.now) methods.now)) }
@@ -80,6 +83,7 @@ fn push_methods(out: &mut ByteList, names: &[ByteList], methods: &[Method]) -> R
     Ok(())
 }
 
+// Appends the line that opens an interface: its name and its IID.
 fn push_interface_head(out: &mut ByteList, interface: &Interface) -> Result<(), Memory>
     ensures ok { OnOk result (out.new ≡ out.old ++ line_text (interface_words interface.now)) }
     ensures fits { OnOk result (IsGuid interface.now.iid) }

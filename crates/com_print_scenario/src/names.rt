@@ -11,12 +11,14 @@ use com_read_statements::Names;
 use itoa::Buffer;
 use std::alloc::Global;
 
+// A copy of a method's parameter types. The only error is want of memory.
 fn copy_kinds(alloc: Global, kinds: &[Kind]) -> Result<Rows<Kind>, Memory>
     ensures { IfOk result (λ copy. copy ≡ kinds.now) }
 {
     Ok(Rows::from_vec(Vec::from_slice(alloc, kinds)?))
 }
 
+// A copy of a method: its name, its parameters and its result. The only error is want of memory.
 fn copy_method(alloc: Global, method: &Method) -> Result<Method, Memory>
     ensures { IfOk result (λ copy. copy ≡ method.now) }
 {
@@ -27,6 +29,7 @@ fn copy_method(alloc: Global, method: &Method) -> Result<Method, Memory>
     })
 }
 
+// A copy of an interface's methods. The only error is want of memory.
 fn copy_methods(alloc: Global, methods: &[Method]) -> Result<Rows<Method>, Memory>
     ensures { IfOk result (λ copies. copies ≡ methods.now) }
 {
@@ -37,6 +40,7 @@ fn copy_methods(alloc: Global, methods: &[Method]) -> Result<Rows<Method>, Memor
     Ok(Rows::from_vec(copies))
 }
 
+// A copy of an interface: its name, its IID and its methods. The only error is want of memory.
 fn copy_interface(alloc: Global, interface: &Interface) -> Result<Interface, Memory>
     ensures { IfOk result (λ copy. copy ≡ interface.now) }
 {
@@ -62,6 +66,7 @@ fn tables(alloc: Global, classes: &Classes) -> Result<Rows<Interface>, Memory>
     Ok(Rows::from_vec(copies))
 }
 
+// The names of the interfaces by number, from 0. The only error is want of memory.
 fn interface_names(alloc: Global, tables: &[Interface]) -> Result<Rows<ByteList>, Memory>
     ensures { IfOk result (λ names. names ≡ map (λ i. i.name) tables.now) }
 {
@@ -72,6 +77,7 @@ fn interface_names(alloc: Global, tables: &[Interface]) -> Result<Rows<ByteList>
     Ok(Rows::from_vec(names))
 }
 
+// The names of the classes by number, from 1. The only error is want of memory.
 #[tactic(auto, using(crate::proofs::Lists::class_more, crate::proofs::Lists::class_there, crate::proofs::Lists::classes_end))]
 fn class_names(alloc: Global, classes: &Classes) -> Result<Rows<ByteList>, Memory>
     requires { length classes.now.classes ≤ 64 }
@@ -97,6 +103,7 @@ fn filter_name(alloc: Global, number: usize) -> Result<ByteList, Memory>
     Ok(name)
 }
 
+// A name for each filter: `F1`, `F2` and on. The only error is want of memory.
 #[tactic(auto, using(crate::proofs::Lists::filter_more, crate::proofs::Lists::filters_end))]
 fn filter_names(alloc: Global, filters: &[Filter]) -> Result<Rows<ByteList>, Memory>
     ensures { IfOk result (λ names. names ≡ filter_names 1 filters.now) }

@@ -19,12 +19,13 @@ use std::alloc::Global;
 
 // The interfaces beside the built-in ones.
 fn own(interfaces: &[Interface]) -> &[Interface]
-    requires { 4 ≤ length interfaces.now }
-    ensures { result.now ≡ drop 4 interfaces.now }
+    requires { BUILT_IN_COUNT ≤ length interfaces.now }
+    ensures { result.now ≡ drop BUILT_IN_COUNT interfaces.now }
 {
     &interfaces[BUILT_IN_COUNT..]
 }
 
+// Appends the first line: `scenario`, and the version of the language.
 fn push_header(out: &mut ByteList, version: u8) -> Result<(), Memory>
     ensures { OnOk result (out.new ≡ out.old ++ line_text (header_words version)) }
 {
@@ -33,6 +34,7 @@ fn push_header(out: &mut ByteList, version: u8) -> Result<(), Memory>
     push_end(out)
 }
 
+// Appends the line that says how many lanes the pool has.
 fn push_pool(out: &mut ByteList, lanes: u32) -> Result<(), Memory>
     ensures { OnOk result (out.new ≡ out.old ++ line_text (pool_words lanes)) }
 {
@@ -43,8 +45,8 @@ fn push_pool(out: &mut ByteList, lanes: u32) -> Result<(), Memory>
 
 /// The text of a formed scenario: the header, the pool, the interfaces beside the built-in ones, the
 /// classes and natives, the filters under the names `F1`, `F2` and on, the threads, and all picks in
-/// one line. The only error is want of memory. Where there is a text, each number of the scenario is
-/// one that its type has.
+/// one line. The only error is want of memory. Where there is a text, each number in the IIDs of
+/// these interfaces, in the CLSIDs, in the bodies and in the scripts is one that its type has.
 #[tactic(auto, using(crate::proofs::Text::built_in_there, crate::proofs::Text::whole_text, crate::proofs::Text::whole_fits))]
 pub fn scenario_text(alloc: Global, scenario: &Scenario) -> Result<ByteList, Memory>
     requires { Formed scenario.now }

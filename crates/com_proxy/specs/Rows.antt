@@ -11,6 +11,7 @@ abbrev pub is_for : ℕ → ℕ → ℕ → ProxyRow → Bool
 is_for apartment object iface row =
     (row.object == object) && ((row.apartment == apartment) && (row.iface == iface))
 
+-- a row that holds no references, of an apartment, an object and an interface
 abbrev pub no_row : ℕ → ℕ → ℕ → ProxyRow
 no_row apartment object iface =
     record { apartment = apartment; object = object; iface = iface; local = 0; public = 0 }
@@ -50,12 +51,15 @@ changed_row change apartment object iface (row ∷ rows) =
 abbrev pub gaining : ℕ → ProxyRow → ProxyRow
 gaining refs row = record row { local = row.local + 1; public = row.public + refs }
 
+-- one local reference more, and as many public ones as before
 abbrev pub one_local_more : ProxyRow → ProxyRow
 one_local_more row = record row { local = row.local + 1 }
 
+-- one local reference less, where one is held, and as many public ones as before
 abbrev pub one_local_less : ProxyRow → ProxyRow
 one_local_less row = record row { local = row.local - 1 }
 
+-- no public references any more, and as many local ones as before
 abbrev pub no_public : ProxyRow → ProxyRow
 no_public row = record row { public = 0 }
 

@@ -207,9 +207,10 @@ impl Proxies {
         ensures rows { self.new.rows ≡ self.old.rows }
         ensures spare { self.old.spare ≤ self.new.spare }
     {
-        self.proxies.reserve(n)?;
-        self.objects.reserve(n)?;
-        self.rows.reserve(n as usize)
+        let rows = n as usize;
+        self.proxies.reserve(rows)?;
+        self.objects.reserve(rows)?;
+        self.rows.reserve(rows)
     }
 
     /// One local reference and `refs` public ones more.

@@ -12,9 +12,11 @@ pub record CodeAt : Type 0 where
   pub statements : List Stmt
   pub spots : List Fault
 
+-- a body or a script before its first statement
 abbrev pub no_code : CodeAt
 no_code = record { statements = []; spots = [] }
 
+-- one more statement behind the others, and its fault if it skips beyond the end
 abbrev pub code_more : CodeAt → Stmt → Fault → CodeAt
 code_more code s f = record { statements = code.statements ++ s ∷ []; spots = code.spots ++ f ∷ [] }
 
@@ -27,6 +29,8 @@ abbrev pub spotted : Option Fault → Result (List Stmt) Fault
 spotted None = Err first_position
 spotted (Some f) = Err f
 
+-- the statements, or what is wrong with them: a skip that passes the end has the fault that is kept for it, and too
+-- many statements have the one at the text's first position
 abbrev pub checked_by : CodeAt → Option BodyFault → Result (List Stmt) Fault
 checked_by code None = Ok code.statements
 checked_by code (Some (faults.Jump k)) = spotted (slice_get code.spots k)

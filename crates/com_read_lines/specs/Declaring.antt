@@ -42,6 +42,7 @@ filter_name_at names line = do
   w ← name_at line 1
   if bytes_eq w.bytes (codes "none") then Err (fault_at UNEXPECTED w) else free_name_at names line 1
 
+-- a class's threading model; every other word is fault `UNEXPECTED`
 unfoldable pub model_at : List WordAt → ℕ → Result ThreadingModel Fault
 model_at line k = do
   w ← word_at line k
@@ -58,6 +59,7 @@ abbrev pub relay_of : WordAt → ThreadingModel → Result Native Fault
 relay_of w models.Agile = Err (fault_at UNFIT w)
 relay_of w _ = Ok natives.Relay
 
+-- the kind of a native class of a threading model: `counter`, `latch`, or `relay` where the class is not agile
 unfoldable pub native_at : ThreadingModel → List WordAt → ℕ → Result Native Fault
 native_at model line k = do
   w ← word_at line k
@@ -73,6 +75,7 @@ native_interface natives.Counter = 1
 native_interface natives.Relay = 2
 native_interface natives.Latch = 3
 
+-- the interfaces of a native class: the one of its kind alone
 abbrev pub natives_of : Native → List ℕ
 natives_of native = native_interface native ∷ []
 

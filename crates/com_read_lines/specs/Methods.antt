@@ -25,6 +25,7 @@ type_word_of bytes =
     else (if bytes_eq bytes (codes "guid") then Some kinds.Guid
     else None))))
 
+-- a kind that the language has a word for, or else a reference on the declared interface that the word names
 abbrev pub type_by : List (List ℕ) → List WordAt → ℕ → Option Kind → Result Kind Fault
 type_by names line k (Some kind) = Ok kind
 type_by names line k None = do

@@ -14,11 +14,13 @@ use Rattle.com_read_statements.specs.Keywords.{keyword_of, takes}
 use Rattle.com_read_statements.specs.Statements.{stmt_of}
 use Rattle.com_read_lines.specs.Codes.{CodeAt, code_more, first_position}
 
+-- the index of a skip's number in its line: 1 behind `skip`, 2 behind `skipz` and its register; 0 for other statements
 abbrev pub number_index : Keyword → ℕ
 number_index (keywords.Local locals.Skip) = 1
 number_index (keywords.Local locals.SkipZero) = 2
 number_index _ = 0
 
+-- fault `UNENDED` at the number of a skip that passes the end, and the first position where the line has no such word
 abbrev pub skip_fault : Option WordAt → Fault
 skip_fault None = first_position
 skip_fault (Some w) = fault_at UNENDED w
@@ -27,12 +29,14 @@ skip_fault (Some w) = fault_at UNENDED w
 abbrev pub spot_at : Keyword → List WordAt → Fault
 spot_at k line = skip_fault (slice_get line (number_index k))
 
+-- one more statement by its keyword; beyond the limit its first word is fault `LIMIT`
 abbrev pub stated : Program → ℕ → Names → CodeAt → WordAt → List WordAt → Keyword → Result CodeAt Fault
 stated p limit names code w line k =
     if nat_le limit (length code.statements) then Err (fault_at LIMIT w) else (do
       s ← stmt_of p names k line
       Ok (code_more code s (spot_at k line)))
 
+-- one more statement by its first word; a word that begins none of the program is fault `UNEXPECTED`
 abbrev pub allowed : Program → ℕ → Names → CodeAt → WordAt → List WordAt → Option Keyword
     → Result CodeAt Fault
 allowed p limit names code w line None = Err (fault_at UNEXPECTED w)

@@ -15,6 +15,7 @@ use Rattle.com_base.specs.declared.limits.TheConstants.{LAST_MS}
 use Rattle.com_read_lines.specs.declared.rules.RuleWord.{RuleWord}
 use Rattle.com_read_lines.specs.declared.rules.RuleWord.TheVariants as words
 
+-- the kind of rule that a line's first word begins, and None for every other word
 abbrev pub rule_word_of : List ℕ → Option RuleWord
 rule_word_of bytes =
     if bytes_eq bytes (codes "incoming") then Some words.Incoming
@@ -50,10 +51,12 @@ refusal_at line k = do
       else (if bytes_eq w.bytes (codes "*") then Ok None
       else Err (fault_at UNEXPECTED w)))
 
+-- whether a number may answer a retry: -1, or 0 to `LAST_MS`
 abbrev pub in_answers : ℤ → Bool
 in_answers (pos n) = nat_le n LAST_MS
 in_answers (negsuc n) = n == 0
 
+-- the answer to a retry: a word that is no number, or none of the range, is fault `NUMBER`
 abbrev pub as_answer : WordAt → Option ℤ → Result ℤ Fault
 as_answer w None = Err (fault_at NUMBER w)
 as_answer w (Some z) = if in_answers z then Ok z else Err (fault_at NUMBER w)

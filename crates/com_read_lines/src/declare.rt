@@ -181,6 +181,7 @@ fn listed_item(
     Ok(number)
 }
 
+// The interfaces of a class by their numbers, one for each word from the line's fifth on.
 #[tactic(auto, using(crate::proofs::Lines::listed_more))]
 fn listed_words(
     alloc: Global,

@@ -5,6 +5,7 @@ ghost use Rattle.com_read_lines.specs.Tables.{guid_eq, has_guid};
 
 use com_base::Guid;
 
+// Whether two GUIDs are equal, field by field.
 fn same_guid(left: &Guid, right: &Guid) -> bool
     ensures { result ≡ guid_eq left.now right.now }
 {

@@ -20,6 +20,7 @@ ascii_of bytes = if list_all is_ascii bytes then Some bytes else None
 unfoldable pub guid_of : List ℕ → Option Guid
 guid_of bytes = option_and_then guid_of_text (ascii_of bytes)
 
+-- the GUID that a word spells, and where it spells none fault `GUID` at the word
 abbrev pub as_guid : WordAt → Option Guid → Result Guid Fault
 as_guid w None = Err (fault_at GUID w)
 as_guid w (Some g) = Ok g
@@ -30,9 +31,11 @@ guid_at line k = do
   w ← word_at line k
   as_guid w (guid_of w.bytes)
 
+-- whether bytes are pairs of hexadecimal digits, of either case; an empty list is
 abbrev pub are_pairs : List ℕ → Bool
 are_pairs digits = (length digits % 2 == 0) && list_all is_ascii_hexdigit digits
 
+-- the bytes that were decoded, and None where the digits spell none
 abbrev pub decoded : Result (List ℕ) FromHexError → Option (List ℕ)
 decoded (Ok bytes) = Some bytes
 decoded (Err e) = None

@@ -17,6 +17,7 @@ use Rattle.com_read_operands.specs.Literals.{guid_of}
 abbrev pub is_tail : ℕ → Bool
 is_tail b = is_ascii_alphanumeric b || b == 95
 
+-- whether bytes may stand behind a name's first letter; none at all may
 abbrev pub are_tail : List ℕ → Bool
 are_tail [] = true
 are_tail (b ∷ bs) = if is_tail b then are_tail bs else false
@@ -31,6 +32,7 @@ abbrev pub position_of : List (List ℕ) → List ℕ → Option ℕ
 position_of [] name = None
 position_of (n ∷ ns) name = if bytes_eq n name then Some 0 else option_map (λ k. k + 1) (position_of ns name)
 
+-- a number below 2^16; a greater one is none
 abbrev pub of_16_bits : Option ℕ → Option ℕ
 of_16_bits None = None
 of_16_bits (Some n) = if nat_lt n (2 ^ 16) then Some n else None
@@ -45,6 +47,7 @@ name_at line k = do
   w ← word_at line k
   if is_name w.bytes then Ok w else Err (fault_at UNEXPECTED w)
 
+-- the number of a name that was declared above, and for None fault `UNDECLARED` at the word
 abbrev pub known : WordAt → Option ℕ → Result ℕ Fault
 known w None = Err (fault_at UNDECLARED w)
 known w (Some n) = Ok n
@@ -55,10 +58,12 @@ declared_at names line k = do
   w ← name_at line k
   known w (number_of_name names w.bytes)
 
+-- whether a word begins with `{`, as a GUID does
 abbrev pub opens_brace : List ℕ → Bool
 opens_brace [] = false
 opens_brace (b ∷ bs) = b == 123
 
+-- a GUID as what is asked for, and where the word spells none fault `GUID` at it
 abbrev pub as_asked : WordAt → Option Guid → Result Asked Fault
 as_asked w None = Err (fault_at GUID w)
 as_asked w (Some g) = Ok (askeds.Guid g)

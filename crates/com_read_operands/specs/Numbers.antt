@@ -19,10 +19,12 @@ unfoldable pub number_of : List ℕ → Option ℕ
 number_of [] = None
 number_of (b ∷ bs) = digits_on 0 (b ∷ bs)
 
+-- the number behind a `-`, which is at most 2^63; `-0` is 0
 abbrev pub negative : ℕ → Option ℤ
 negative n =
     if n == 0 then Some (pos 0) else (if nat_lt HALF n then None else Some (negsuc (n - 1)))
 
+-- the number without a `-`, which is below 2^63
 abbrev pub positive : ℕ → Option ℤ
 positive n = if nat_lt n HALF then Some (pos n) else None
 

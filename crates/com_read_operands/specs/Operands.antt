@@ -43,6 +43,7 @@ small_of (a ∷ b ∷ []) =
     if is_digit a && not (a == 48) && is_digit b then Some (10 * (a - 48) + (b - 48)) else None
 small_of (a ∷ b ∷ c ∷ bs) = None
 
+-- a letter and a number: a register, a slot, a cell, a link or a buffer, where there is one with this number
 abbrev pub lettered_by : ℕ → ℕ → Operand
 lettered_by letter n =
     if letter == 114 && nat_lt n REGISTER_COUNT then operands.Register n
@@ -57,6 +58,7 @@ unfoldable pub lettered : ℕ → Option ℕ → Operand
 lettered letter None = operands.Wrong UNEXPECTED
 lettered letter (Some n) = lettered_by letter n
 
+-- a whole number as an operand, and fault `NUMBER` where the word spells none of 64 bits
 abbrev pub numbered : Option ℤ → Operand
 numbered None = operands.Wrong NUMBER
 numbered (Some n) = operands.Number n
@@ -65,6 +67,7 @@ numbered (Some n) = operands.Number n
 unfoldable pub numeric_of : List ℕ → Operand
 numeric_of bytes = numbered (signed_of bytes)
 
+-- a GUID as an operand, and fault `GUID` where the word spells none
 abbrev pub braced : Option Guid → Operand
 braced None = operands.Wrong GUID
 braced (Some g) = operands.Guid g
@@ -74,6 +77,7 @@ abbrev pub begins_number : ℕ → List ℕ → Bool
 begins_number b [] = is_digit b
 begins_number b (c ∷ bs) = is_digit b || (b == 45 && is_digit c)
 
+-- by a word's first byte: a GUID behind `{`, a number as it begins, else a letter and its number
 abbrev pub by_first : List ℕ → Operand
 by_first [] = operands.Wrong UNEXPECTED
 by_first (b ∷ bs) =
@@ -92,6 +96,7 @@ plain_of bytes = if bytes_eq bytes (codes "true") then operands.Bool true
 abbrev pub inner : List ℕ → List ℕ
 inner bytes = if nat_lt (length bytes) 3 then [] else slice_range bytes 2 (length bytes - 1)
 
+-- by a word's sort: a literal is what its marks make it, and only a plain word is read by its bytes
 abbrev pub operand_by : List ℕ → Sort → Operand
 operand_by bytes sorts.Plain = plain_of bytes
 operand_by bytes sorts.Text = operands.Text
@@ -117,24 +122,29 @@ unfit (operands.Wrong n) = n
 unfit operands.Null = UNEXPECTED
 unfit _ = UNFIT
 
+-- a register's number; every other operand may not stand there
 abbrev pub as_register : WordAt → Operand → Result ℕ Fault
 as_register w (operands.Register n) = Ok n
 as_register w o = Err (fault_at (unfit o) w)
 
+-- the number of the register, r0 to r15, that stands at an index of the line
 unfoldable pub register_at : List WordAt → ℕ → Result ℕ Fault
 register_at line k = do
   w ← word_at line k
   as_register w (operand_of w)
 
+-- a slot's number; every other operand may not stand there
 abbrev pub as_slot : WordAt → Operand → Result ℕ Fault
 as_slot w (operands.Slot n) = Ok n
 as_slot w o = Err (fault_at (unfit o) w)
 
+-- the number of the slot, s0 to s7, that stands at an index of the line
 unfoldable pub slot_at : List WordAt → ℕ → Result ℕ Fault
 slot_at line k = do
   w ← word_at line k
   as_slot w (operand_of w)
 
+-- a cell's number where cells are allowed; elsewhere a cell is fault `UNFIT`
 abbrev pub as_cell : Bool → WordAt → Operand → Result ℕ Fault
 as_cell cells w (operands.Cell n) = if cells then Ok n else Err (fault_at UNFIT w)
 as_cell cells w o = Err (fault_at (unfit o) w)
@@ -145,15 +155,18 @@ cell_at cells line k = do
   w ← word_at line k
   as_cell cells w (operand_of w)
 
+-- a buffer's number; every other operand may not stand there
 abbrev pub as_buffer : WordAt → Operand → Result ℕ Fault
 as_buffer w (operands.Buffer n) = Ok n
 as_buffer w o = Err (fault_at (unfit o) w)
 
+-- the number of the packet buffer, p0 to p63, that stands at an index of the line
 unfoldable pub buffer_at : List WordAt → ℕ → Result ℕ Fault
 buffer_at line k = do
   w ← word_at line k
   as_buffer w (operand_of w)
 
+-- a slot, or a link where links are allowed; elsewhere a link is fault `UNFIT`
 abbrev pub as_place : Bool → WordAt → Operand → Result Place Fault
 as_place links w (operands.Slot n) = Ok (places.Slot n)
 as_place links w (operands.Link n) = if links then Ok (places.Link n) else Err (fault_at UNFIT w)
@@ -172,6 +185,7 @@ text_literal w =
     then Err (fault_at LIMIT w)
     else Ok (values.Text (slice_range w.bytes 1 (length w.bytes - 1)))
 
+-- bytes as a value, and fault `UNEXPECTED` where the digits spell none
 abbrev pub as_bytes : WordAt → Option (List ℕ) → Result Value Fault
 as_bytes w None = Err (fault_at UNEXPECTED w)
 as_bytes w (Some bytes) = Ok (values.Bytes bytes)
@@ -182,6 +196,7 @@ bytes_literal w =
     if nat_lt (2 * LITERAL_LIMIT) (length (inner w.bytes)) then Err (fault_at LIMIT w)
     else as_bytes w (unhexed (inner w.bytes))
 
+-- a literal's value as an operand; its fault stays
 abbrev pub written : Result Value Fault → Result Op Fault
 written r = r >>= λ v. Ok (ops.Literal v)
 
@@ -201,6 +216,7 @@ op_at line k = do
   w ← word_at line k
   literal_of w (operand_of w)
 
+-- a number below 2^32; a greater one is none
 abbrev pub word32 : ℕ → Option ℕ
 word32 n = if nat_lt n (2 ^ 32) then Some n else None
 
@@ -224,6 +240,7 @@ hex_word_of [] = None
 hex_word_of (a ∷ []) = None
 hex_word_of (a ∷ b ∷ digits) = if a == 48 && b == 120 then behind_x digits else None
 
+-- the HRESULT with the number that was read, and without one the HRESULT whose name the bytes are
 abbrev pub or_named : List ℕ → Option ℕ → Option HResult
 or_named bytes (Some n) = Some (record { 0 = n })
 or_named bytes None = option_and_then hresult_named (ascii_of bytes)
@@ -232,15 +249,18 @@ or_named bytes None = option_and_then hresult_named (ascii_of bytes)
 unfoldable pub hresult_of : List ℕ → Option HResult
 hresult_of bytes = or_named bytes (hex_word_of bytes)
 
+-- a register that the HRESULT is taken from; every other operand may not stand there
 abbrev pub as_code_register : WordAt → Operand → Result Code Fault
 as_code_register w (operands.Register n) = Ok (answers.Register n)
 as_code_register w o = Err (fault_at (unfit o) w)
 
+-- whether a word begins with `0x`
 abbrev pub begins_hex : List ℕ → Bool
 begins_hex [] = false
 begins_hex (a ∷ []) = false
 begins_hex (a ∷ b ∷ bs) = a == 48 && b == 120
 
+-- an HRESULT that was read, else a register; no register is read behind `0x`
 abbrev pub as_code : WordAt → Option HResult → Result Code Fault
 as_code w (Some hr) = Ok (answers.Literal hr)
 as_code w None = if begins_hex w.bytes then Err (fault_at UNEXPECTED w) else as_code_register w (operand_of w)
@@ -252,6 +272,7 @@ code_at line k = do
   w ← word_at line k
   as_code w (hresult_of w.bytes)
 
+-- what a body leaves with: a slot's reference, else a register or a literal
 abbrev pub as_given : WordAt → Operand → Result Given Fault
 as_given w (operands.Slot n) = Ok (gifts.Slot n)
 as_given w o = literal_of w o >>= λ op. Ok (gifts.Op op)
@@ -264,12 +285,14 @@ given_at line k = do
     w ← word_at line k
     as_given w (operand_of w)) else Ok gifts.Nothing
 
+-- `sta` or `mta`: every other word is fault `UNEXPECTED`
 unfoldable pub mode_at : List WordAt → ℕ → Result Mode Fault
 mode_at line k = do
   w ← word_at line k
   if bytes_eq w.bytes (codes "sta") then Ok modes.Sta
       else (if bytes_eq w.bytes (codes "mta") then Ok modes.Mta else Err (fault_at UNEXPECTED w))
 
+-- `normal`, `strong` or `weak`: every other word is fault `UNEXPECTED`
 unfoldable pub marshal_mode_at : List WordAt → ℕ → Result MarshalMode Fault
 marshal_mode_at line k = do
   w ← word_at line k

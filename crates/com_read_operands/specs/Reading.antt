@@ -17,14 +17,16 @@ abbrev pub ◌>>=◌ : {A B : Type 0} → Result A Fault → (A → Result B Fau
 (Ok x) >>= f = f x
 (Err e) >>= f = Err e
 
+-- a fault as the error that a reader returns
 abbrev pub error_of : Fault → ScenarioError
 error_of f = errors.Fault f.number f.line f.column
 
--- What a function returned, seen by view, is what reading gives, unless memory ran out.
+-- What a function failed with agrees with reading: it is the fault that reading gives, or want of memory.
 abbrev pub Fails : {Y : Type 0} → ScenarioError → Result Y Fault → Type 0
 Fails errors.Memory read = Unit {0}
 Fails (errors.Fault n l c) read = read ≡ Err (record { number = n; line = l; column = c })
 
+-- What a function returned agrees with reading: it is the value, seen by `view`, or the fault, or want of memory.
 abbrev pub Gives : {X Y : Type 0} → (X → Y) → Result X ScenarioError → Result Y Fault → Type 0
 Gives view (Ok x) read = read ≡ Ok (view x)
 Gives view (Err e) read = Fails e read
@@ -50,6 +52,7 @@ judged line k w (sorts.Remark c) = Err (missing_at (slice_get line (k - 1)))
 judged line k w sorts.Unclosed = Err (fault_at UNEXPECTED w)
 judged line k w _ = Ok w
 
+-- the word where one is needed; where the line ends, the fault is behind the word before
 abbrev pub needed : List WordAt → ℕ → Option WordAt → Result WordAt Fault
 needed line k None = Err (missing_at (slice_get line (k - 1)))
 needed line k (Some w) = judged line k w w.sort
@@ -58,10 +61,12 @@ needed line k (Some w) = judged line k w w.sort
 unfoldable pub word_at : List WordAt → ℕ → Result WordAt Fault
 word_at line k = needed line k (slice_get line k)
 
+-- a word that stands there; a comment is one only for a byte outside the characters, and that is the fault
 abbrev pub is_word : WordAt → Sort → Result Bool Fault
 is_word w (sorts.Remark c) = Err (character_at w c)
 is_word w _ = Ok true
 
+-- whether a word stands there; a comment that does is a fault
 abbrev pub is_there : Option WordAt → Result Bool Fault
 is_there None = Ok false
 is_there (Some w) = is_word w w.sort
@@ -70,12 +75,14 @@ is_there (Some w) = is_word w w.sort
 unfoldable pub stands_at : List WordAt → ℕ → Result Bool Fault
 stands_at line k = is_there (slice_get line k)
 
+-- the fault of a word where the line has to end: what is wrong with it as such, and otherwise `EXTRA`
 abbrev pub left_over : WordAt → Sort → Result (Unit {0}) Fault
 left_over w (sorts.Stray c) = Err (character_at w c)
 left_over w (sorts.Remark c) = Err (character_at w c)
 left_over w sorts.Unclosed = Err (fault_at UNEXPECTED w)
 left_over w _ = Err (fault_at EXTRA w)
 
+-- no word where the line has to end; a word there is a fault
 abbrev pub nothing : Option WordAt → Result (Unit {0}) Fault
 nothing None = Ok tt
 nothing (Some w) = left_over w w.sort
@@ -84,12 +91,14 @@ nothing (Some w) = left_over w w.sort
 unfoldable pub end_at : List WordAt → ℕ → Result (Unit {0}) Fault
 end_at line k = nothing (slice_get line k)
 
+-- the first word as such: a byte outside the characters is the fault at its column, in a comment too
 abbrev pub opening : WordAt → Sort → Result WordAt Fault
 opening w (sorts.Stray c) = Err (character_at w c)
 opening w (sorts.Remark c) = Err (character_at w c)
 opening w sorts.Unclosed = Err (fault_at UNEXPECTED w)
 opening w _ = Ok w
 
+-- the first word of a line, and fault `MISSING` at the text's first place where the line has none
 abbrev pub opened : List WordAt → Option WordAt → Result WordAt Fault
 opened line None = Err (missing_at (slice_get line 0))
 opened line (Some w) = opening w w.sort
@@ -98,6 +107,7 @@ opened line (Some w) = opening w w.sort
 unfoldable pub first_at : List WordAt → Result WordAt Fault
 first_at line = opened line (slice_get line 0)
 
+-- a number from `low` to `high`; another, or None, is fault `NUMBER` at the word
 abbrev pub within : ℕ → ℕ → WordAt → Option ℕ → Result ℕ Fault
 within low high w None = Err (fault_at NUMBER w)
 within low high w (Some n) = if nat_le low n && nat_le n high then Ok n else Err (fault_at NUMBER w)

@@ -14,6 +14,7 @@ use com_text::Word;
 use hex::FromHexError;
 use std::alloc::{AllocError, Global};
 
+// Whether each byte is an ASCII character.
 fn all_ascii(bytes: &[u8]) -> bool
     ensures { result ≡ list_all is_ascii bytes.now }
 {
@@ -54,6 +55,7 @@ pub fn guid(line: &[Word], index: usize) -> Result<Guid, ScenarioError>
     }
 }
 
+// Whether each byte is a hexadecimal digit, of either case.
 fn all_digits(digits: &[u8]) -> bool
     ensures { result ≡ list_all is_ascii_hexdigit digits.now }
 {

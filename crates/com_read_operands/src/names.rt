@@ -19,6 +19,7 @@ fn is_tail(byte: u8) -> bool
     byte.is_ascii_alphanumeric() || byte == b'_'
 }
 
+// Whether bytes may stand behind a name's first letter. None at all may.
 fn are_tail(bytes: &[u8]) -> bool
     ensures { result ≡ are_tail bytes.now }
 {

@@ -17,6 +17,7 @@ use Rattle.com_read_lines.specs.Codes.{no_code}
 use Rattle.com_read_lines.specs.Declaring.{free_guid_at, free_name_at, interface_name_at, filter_name_at}
 use Rattle.com_read_lines.specs.Declaring.{model_at, native_at, natives_of, listed_at, picks_on}
 
+-- which of the words that begin a line outside of sections these bytes are, if they are one
 abbrev pub section_word_of : List ℕ → Option SectionWord
 section_word_of bytes =
     if bytes_eq bytes (codes "pool") then Some words.Pool
@@ -110,6 +111,7 @@ picks_line st line = do
   more ← picks_on [] line 1 (drop 1 line)
   Ok (record st { picks = st.picks ++ more })
 
+-- a line outside of sections, by which word begins it; any other word is at fault
 abbrev pub top_by : State → List WordAt → WordAt → Option SectionWord → Result State Fault
 top_by st line w None = Err (fault_at UNEXPECTED w)
 top_by st line w (Some words.Pool) = pool_line st w line

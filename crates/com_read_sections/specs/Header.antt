@@ -9,6 +9,8 @@ use Rattle.com_read_lines.specs.Header.{lone_fault, version_at, earlier}
 use Rattle.com_read_sections.specs.declared.state.State.{State}
 use Rattle.com_read_sections.specs.declared.state.Section.TheVariants as sections
 
+-- A line of one word where the header is awaited. A byte outside the characters in a comment is a fault that is
+-- kept, if none is kept yet; any other word is at fault at once.
 abbrev pub lone : State → Option Fault → WordAt → Sort → Result State Fault
 lone st pending w (sorts.Remark c) =
     Ok (record st { section = sections.Header (earlier pending (character_at w c)) })

@@ -50,6 +50,7 @@ inner_interface st i line = do
     more ← method_line st.names.interfaces i w line
     Ok (record st { section = sections.Interface more })) else top_line (interface_closed st i) line
 
+-- one of these bodies is that of the method
 abbrev pub has_body : List MethodBody → MethodNumber → Bool
 has_body [] head = false
 has_body (b ∷ bs) head =
@@ -63,6 +64,7 @@ body_head st c line = do
     done ← end_at line 2
     Ok (record st { section = sections.Body c head no_code }))
 
+-- a class's `end`: the class is closed, and the next line is outside of sections
 abbrev pub class_ended : State → Class → List WordAt → Result State Fault
 class_ended st c line = do
   done ← end_at line 1
@@ -76,6 +78,7 @@ inner_class st c line = do
       else (if bytes_eq w.bytes (codes "end") then class_ended st c line
       else Err (fault_at UNEXPECTED w))
 
+-- what the bodies of a class are read as: those of an agile class may name no links
 abbrev pub program_of : ThreadingModel → Program
 program_of models.Agile = programs.AgileBody
 program_of _ = programs.Body
@@ -86,6 +89,7 @@ with_body c head body = record c {
   bodies = c.bodies ++ record { iface = head.iface; method = head.method; body = body } ∷ [];
 }
 
+-- a body's `end`: no skip may pass it, and the next line is in the class again, which has one body more
 abbrev pub body_ended : State → Class → MethodNumber → CodeAt → List WordAt → Result State Fault
 body_ended st c head code line = do
   body ← checked code BODY_LIMIT
@@ -100,6 +104,7 @@ inner_body st c head code line = do
     more ← program_line (program_of c.model) BODY_LIMIT st.names code w line
     Ok (record st { section = sections.Body c head more }))
 
+-- a script's `end`: no skip may pass it, and the next line is outside of sections, with one script more
 abbrev pub thread_ended : State → CodeAt → List WordAt → Result State Fault
 thread_ended st code line = do
   body ← checked code SCRIPT_LIMIT
@@ -114,6 +119,7 @@ inner_thread st code line = do
     more ← program_line programs.Script SCRIPT_LIMIT st.names code w line
     Ok (record st { section = sections.Thread more }))
 
+-- a filter's `end`: its rules are one filter more, and the next line is outside of sections
 abbrev pub filter_ended : State → List Rule → List WordAt → Result State Fault
 filter_ended st rules line = do
   done ← end_at line 1
@@ -134,6 +140,7 @@ inner_filter st rules line = do
     more ← ruled rules w line (rule_word_of w.bytes)
     Ok (record st { section = sections.Filter more }))
 
+-- what a line with words makes of what was read so far, by what it stands in
 abbrev pub by_section : State → List WordAt → Section → Result State Fault
 by_section st line (sections.Header pending) = header_line st pending line
 by_section st line sections.Top = top_line st line

@@ -25,6 +25,8 @@ outlined st = record {
   picks = st.picks;
 }
 
+-- the text's end, by what it stands in: a text without a header is at fault, an open interface is closed there, and
+-- an open class, body, filter or script lacks its `end`, which is a fault at this line and column
 abbrev pub finished : State → ℕ → ℕ → Section → Result Outline Fault
 finished st line column (sections.Header pending) = Err first_position
 finished st line column sections.Top = Ok (outlined st)

@@ -39,6 +39,7 @@ pub enum SectionWord {
     Picks,
 }
 
+// Which of the words that begin a line outside of sections these bytes are, if they are one.
 fn section_word_of(bytes: &[u8]) -> Option<SectionWord>
     ensures { result ≡ section_word_of bytes.now }
 {
@@ -78,6 +79,7 @@ fn declare(
     ByteList::from_slice(alloc, name.bytes)
 }
 
+// A `pool` line: the lanes of the pool, given at most once.
 #[tactic(auto, unfolding(crate::specs::Beginning::pool_line))]
 fn pool_line(st: &mut State, word: &Word, line: &[Word]) -> Result<(), ScenarioError>
     ensures { Gives (λ u. st.new) result (pool_line st.old word.now line.now) }
@@ -91,6 +93,7 @@ fn pool_line(st: &mut State, word: &Word, line: &[Word]) -> Result<(), ScenarioE
     Ok(())
 }
 
+// An `interface` line: its name and IID are declared, and it is open for its methods.
 #[tactic(auto, unfolding(crate::specs::Beginning::interface_line))]
 fn interface_line(
     alloc: Global,
@@ -115,6 +118,7 @@ fn interface_line(
     Ok(())
 }
 
+// A `class` line: its name and CLSID are declared, and it is open for its bodies.
 #[tactic(auto, unfolding(crate::specs::Beginning::class_line))]
 fn class_line(
     alloc: Global,
@@ -143,6 +147,7 @@ fn class_line(
     Ok(())
 }
 
+// A `native` line: a class with built-in bodies is declared whole. No section is opened.
 #[tactic(auto, unfolding(crate::specs::Beginning::native_line))]
 fn native_line(
     alloc: Global,
@@ -172,6 +177,7 @@ fn native_line(
     Ok(())
 }
 
+// A `filter` line: its name is declared, and it is open for its rules.
 #[tactic(auto, unfolding(crate::specs::Beginning::filter_line))]
 fn filter_line(
     alloc: Global,
@@ -194,6 +200,7 @@ fn filter_line(
     Ok(())
 }
 
+// A `thread` line: a script is open for its statements.
 #[tactic(auto, unfolding(crate::specs::Beginning::thread_line))]
 fn thread_line(
     alloc: Global,
@@ -213,6 +220,7 @@ fn thread_line(
     Ok(())
 }
 
+// A `picks` line: its lanes go behind those of the earlier ones.
 #[tactic(auto, unfolding(crate::specs::Beginning::picks_line))]
 fn picks_line(alloc: Global, st: &mut State, line: &[Word]) -> Result<(), ScenarioError>
     ensures { Gives (λ u. st.new) result (picks_line st.old line.now) }

@@ -38,6 +38,7 @@ method_position [] name = None
 method_position (m ∷ ms) name =
     if bytes_eq m.name name then Some 0 else option_map (λ k. k + 1) (method_position ms name)
 
+-- the number of a method by its name, in the table of an interface that is there; none from 2^16 on
 abbrev pub in_table : List ℕ → Option Interface → Option ℕ
 in_table name None = None
 in_table name (Some i) = of_16_bits (method_position i.methods name)
@@ -46,6 +47,7 @@ in_table name (Some i) = of_16_bits (method_position i.methods name)
 abbrev pub method_number : List Interface → ℕ → List ℕ → Option ℕ
 method_number tables iface name = in_table name (slice_get tables iface)
 
+-- the method with a number, from 0, in the table of an interface that is there
 abbrev pub in_methods : ℕ → Option Interface → Option Method
 in_methods method None = None
 in_methods method (Some i) = slice_get i.methods method
@@ -54,6 +56,7 @@ in_methods method (Some i) = slice_get i.methods method
 abbrev pub method_of : List Interface → ℕ → ℕ → Option Method
 method_of tables iface method = in_methods method (slice_get tables iface)
 
+-- a method by number; where the interface is not declared, fault `UNDECLARED` at the word
 abbrev pub numbered_by : ℕ → WordAt → Option ℕ → Result Target Fault
 numbered_by method w None = Err (fault_at UNDECLARED w)
 numbered_by method w (Some iface) = Ok (targets.Numbered (record { iface = iface; method = method }))
@@ -64,10 +67,12 @@ numbered_of names w front digits = do
   method ← within 0 LAST_METHOD w (number_of digits)
   numbered_by method w (number_of_name names.interfaces front)
 
+-- a method that the interface has; where it has none of the name, fault `UNDECLARED` at the word
 abbrev pub named_in : WordAt → ℕ → Option ℕ → Result MethodNumber Fault
 named_in w iface None = Err (fault_at UNDECLARED w)
 named_in w iface (Some method) = Ok (record { iface = iface; method = method })
 
+-- a method by name; where the interface or the method is not declared, fault `UNDECLARED` at the word
 abbrev pub named_by : Names → WordAt → List ℕ → Option ℕ → Result MethodNumber Fault
 named_by names w back None = Err (fault_at UNDECLARED w)
 named_by names w back (Some iface) = named_in w iface (method_number names.tables iface back)
@@ -77,14 +82,17 @@ unfoldable pub named_of : Names → WordAt → List ℕ → List ℕ → Result 
 named_of names w front back =
     if is_name back then named_by names w back (number_of_name names.interfaces front) else Err (fault_at UNEXPECTED w)
 
+-- a method that was read by its name, as what a call names
 abbrev pub as_target : Result MethodNumber Fault → Result Target Fault
 as_target r = r >>= λ m. Ok (targets.Named m)
 
+-- behind the dot of a call's method: `#` and a number, or else a name
 abbrev pub behind_dot : Names → WordAt → List ℕ → List ℕ → Result Target Fault
 behind_dot names w front [] = as_target (named_of names w front [])
 behind_dot names w front (b ∷ bs) =
     if b == 35 then numbered_of names w front bs else as_target (named_of names w front (b ∷ bs))
 
+-- a call's method, cut at its first dot; without one, or without a name before it, fault `UNEXPECTED`
 abbrev pub dotted : Names → WordAt → Option ℕ → Result Target Fault
 dotted names w None = Err (fault_at UNEXPECTED w)
 dotted names w (Some dot) =
@@ -97,6 +105,7 @@ target_at names line k = do
   w ← word_at line k
   dotted names w (dot_of w.bytes)
 
+-- a body's method, cut at its first dot: behind that stands its name, and no number is allowed
 abbrev pub headed : Names → WordAt → Option ℕ → Result MethodNumber Fault
 headed names w None = Err (fault_at UNEXPECTED w)
 headed names w (Some dot) =
@@ -109,16 +118,19 @@ method_at names line k = do
   w ← word_at line k
   headed names w (dot_of w.bytes)
 
+-- a slot or `null` for a parameter that takes an interface; no other operand fits
 abbrev pub as_reference : WordAt → Operand → Result Arg Fault
 as_reference w (operands.Slot n) = Ok (args.Slot n)
 as_reference w operands.Null = Ok args.Null
 as_reference w (operands.Wrong n) = Err (fault_at n w)
 as_reference w _ = Err (fault_at UNFIT w)
 
+-- a register or a literal for a parameter that takes no interface; `null` does not fit
 abbrev pub as_value : WordAt → Operand → Result Arg Fault
 as_value w operands.Null = Err (fault_at UNFIT w)
 as_value w o = literal_of w o >>= λ op. Ok (args.Op op)
 
+-- a reference where the parameter takes an interface, and else a value
 abbrev pub as_argument : Kind → WordAt → Operand → Result Arg Fault
 as_argument (kinds.Ref i) w o = as_reference w o
 as_argument _ w o = as_value w o
@@ -135,10 +147,12 @@ arguments_on done [] line k = Ok done
 arguments_on done (p ∷ ps) line k =
     argument_at p line k >>= λ a. arguments_on (done ++ a ∷ []) ps line (k + 1)
 
+-- a result that is a reference goes to a slot; every other operand may not stand there
 abbrev pub in_slot : WordAt → Operand → Result Destination Fault
 in_slot w (operands.Slot n) = Ok (destinations.Slot n)
 in_slot w o = Err (fault_at (unfit o) w)
 
+-- a result that is a value goes to a register; every other operand may not stand there
 abbrev pub in_register : WordAt → Operand → Result Destination Fault
 in_register w (operands.Register n) = Ok (destinations.Register n)
 in_register w o = Err (fault_at (unfit o) w)
@@ -168,10 +182,12 @@ call_of slot number method line = do
   d ← destination_at method.result line (3 + length method.params)
   Ok (stmts.Call slot number.iface number.method args d)
 
+-- a call by the method's parameters and result; without a method, fault `UNDECLARED` at its word
 abbrev pub signed_call : ℕ → MethodNumber → Option Method → List WordAt → Result Stmt Fault
 signed_call slot number None line = word_at line 2 >>= λ w. Err (fault_at UNDECLARED w)
 signed_call slot number (Some m) line = call_of slot number m line
 
+-- a call by name has the method's arguments and result; one by number has none, and the line ends there
 abbrev pub call_by : Names → ℕ → List WordAt → Target → Result Stmt Fault
 call_by names slot line (targets.Named m) = signed_call slot m (method_of names.tables m.iface m.method) line
 call_by names slot line (targets.Numbered m) = do

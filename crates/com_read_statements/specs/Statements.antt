@@ -76,6 +76,7 @@ local_of p locals.SkipZero line = do
   done ← end_at line 3
   Ok (stmts.SkipZero register count)
 
+-- the bytes of a `raw`, and fault `UNEXPECTED` where the digits spell none
 abbrev pub as_raw : WordAt → Option (List ℕ) → Result (List ℕ) Fault
 as_raw w None = Err (fault_at UNEXPECTED w)
 as_raw w (Some bytes) = Ok bytes

@@ -83,6 +83,7 @@ pub enum Keyword {
     Lane(LaneWord),
 }
 
+// The word of a statement that changes only the frame and the cells. Any other word is none.
 fn local_word_of(bytes: &[u8]) -> Option<LocalWord>
     ensures { result ≡ local_word_of bytes.now }
 {
@@ -109,6 +110,7 @@ fn local_word_of(bytes: &[u8]) -> Option<LocalWord>
     }
 }
 
+// The word of an action on references and packets. Any other word is none.
 fn object_word_of(bytes: &[u8]) -> Option<ObjectWord>
     ensures { result ≡ object_word_of bytes.now }
 {
@@ -137,6 +139,7 @@ fn object_word_of(bytes: &[u8]) -> Option<ObjectWord>
     }
 }
 
+// The word of an action on cookies, lanes and apartments. Any other word is none.
 fn lane_word_of(bytes: &[u8]) -> Option<LaneWord>
     ensures { result ≡ lane_word_of bytes.now }
 {

@@ -30,9 +30,11 @@ use Rattle.com_scene.specs.Scenes.{frame_of}
 use Rattle.com_reference_moves.specs.declared.moves.Move.{Move}
 use Rattle.com_reference_moves.specs.declared.written.Written.{Written}
 
+-- A move of the code's lists as the laws of places name it.
 abbrev pub moving_of : Move → Moving
 moving_of m = record { apartment = m.apartment; reference = m.reference }
 
+-- The moves of a list, in their order.
 abbrev pub movings_of : List Move → List Moving
 movings_of ms = map moving_of ms
 
@@ -61,10 +63,12 @@ link_exchanged g (Body c o) r k held = exchanged (Some (g.named o)) r.cells.link
 link_exchanged g (Script l) r k held = no_moves
 link_exchanged g Nobody r k held = no_moves
 
+-- A write at a place of whoever acts, on the slots and links that the step left. A script writes no link.
 abbrev pub place_moves : Ground → Actor → Outcome → Place → Option RefValue → Movings
 place_moves g a r (place.Slot k) held = exchanged (slots_where g a) r.frame.slots k held
 place_moves g a r (place.Link k) held = link_exchanged g a r k held
 
+-- The moves of what an action's entry writes; none where it writes neither a reference nor null.
 abbrev pub step_moves : Ground → Actor → Outcome → Option Written → Movings
 step_moves g a r None = no_moves
 step_moves g a r (Some x) = place_moves g a r x.place x.held
@@ -96,6 +100,8 @@ abbrev pub links_with : Option Written → List (Option RefValue) → List (Opti
 links_with None xs = xs
 links_with (Some x) xs = links_placed x.place x.held xs
 
+-- The slots of a frame after the action of an entry: where it is the frame of whoever acts, those of its step with
+-- the write in them, else those before the entry.
 abbrev pub slots_stepped : SceneTables → Actor → Option Outcome → Deed → (who : Actor)
     → List (Option RefValue)
 slots_stepped t a None d b = (frame_of t b).slots
@@ -109,14 +115,17 @@ links_stepped t a (Some r) d o =
 
 -- ---- frames have 8 slots
 
+-- The frame that a step leaves has 8 slots. Without a step nothing is asked.
 abbrev pub IsWhole : Option Outcome → Type 0
 IsWhole None = Unit {0}
 IsWhole (Some r) = HasSlots r.frame
 
+-- The frame of a body has 8 slots. Of a script nothing is asked.
 abbrev pub FrameWhole : SceneTables → Actor → Type 0
 FrameWhole t (Body c o) = HasSlots (body_at t c)
 FrameWhole t _ = Unit {0}
 
+-- The frame of each call's body has 8 slots.
 abbrev pub BodiesWhole : SceneTables → Type 0
 BodiesWhole t = (c : ℕ) → HasSlots (body_at t c)
 
@@ -143,6 +152,8 @@ result_at c k v =
     if is_direct (route_of (issue_at c k)) && not (from_one c.returned k false)
     then moved (entered_where (admission_at c k)) (value_reference v) else []
 
+-- What arrives with an entry. A Leave takes its frame's slots and brings a direct call's result, a Back takes that and
+-- fills a slot, an Enter brings its values, an Uninit to count 0 takes the script's slots, and a Final links.
 abbrev pub arrived_stepped : Ground → SceneTables → (acting : Actor) → Option Outcome → (after : Actor)
     → (lane : ℕ) → Deed → Movings
 arrived_stepped g t a r b l (deed.Leave c hr v bytes) = record {
@@ -172,6 +183,7 @@ links_of_step n t a r d x [] = []
 links_of_step n t a r d x (o ∷ os) =
     (if n o == x then all_moved (Some x) (links_stepped t a r d o) else []) ++ links_of_step n t a r d x os
 
+-- At the end of an STA the links that its objects have after the action are lost. Where none ends nothing moves.
 abbrev pub ended_stepped : Ground → SceneTables → (acting : Actor) → Option Outcome → Deed → Option ℕ
     → Movings
 ended_stepped g t a r d None = no_moves
@@ -180,6 +192,7 @@ ended_stepped g t a r d (Some x) = record {
   gained = [];
 }
 
+-- The moves of the write of whoever acts; none where nobody acts.
 abbrev pub acted_stepped : Ground → (acting : Actor) → Option Outcome → Deed → Movings
 acted_stepped g a None d = no_moves
 acted_stepped g a (Some r) d = step_moves g a r (place_write r.action d)

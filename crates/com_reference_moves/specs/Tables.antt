@@ -19,6 +19,7 @@ moves_by g w a r b e =
     (together (arrived_moves g (acted a r e.deed w) b e.lane e.deed)
     (ended_moves g (arrived b e.lane e.deed (acted a r e.deed w)) (ends_sta e.deed)))
 
+-- The moves of an entry that is made in a state.
 abbrev pub moves_in : Scenario → State → Entry → Moves
 moves_in s st e =
     moves_by (ground_in s st) (scene_in st) (acting_in s st e) (step_in s st e) (actor_after s st e) e
@@ -58,6 +59,7 @@ ground_at home o c = record {
   returned = λ k. from_one c.returned k false;
 }
 
+-- The moves of an entry by the tables of objects, calls and the scene alone, with the home of its lane.
 abbrev pub moves_at : (home : Option ℕ) → ObjectTables → CallTables → SceneTables → (acting : Actor)
     → Option Outcome → (after : Actor) → Entry → Moves
 moves_at home o c t a r b e = moves_by (ground_at home o c) (scene_read t) a r b e

@@ -39,6 +39,7 @@ pub fn written_by(action: &Action, deed: &Deed) -> Option<Written>
     }
 }
 
+// A reference, or null, that comes to the slot of this number.
 fn at_slot(number: u8, held: Option<RefValue>) -> Option<Written>
     ensures { result ≡ at_slot number held }
 {

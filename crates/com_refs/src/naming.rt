@@ -82,6 +82,7 @@ fn is_named(row: PacketRow, owner: u32, number: u32, fields: &StdFields, iface: 
         && packet_fields(row, owner, number, fields.iid) == *fields
 }
 
+// The row of a packet that is not outstanding: it holds nothing.
 const NO_PACKET: PacketRow = PacketRow {
     outstanding: false,
     mode: MarshalMode::Weak,
@@ -90,6 +91,7 @@ const NO_PACKET: PacketRow = PacketRow {
     refs: 0,
 };
 
+// The row of a cookie that was never given, or was revoked: it holds nothing.
 const NO_COOKIE: Cookie = Cookie {
     is_revoked: true,
     object: 0,

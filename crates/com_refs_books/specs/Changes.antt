@@ -36,16 +36,20 @@ no_books = record {
   result = λ c. None;
 }
 
+-- What a packet is once it ended, and what is read for a number that no packet has: none that is outstanding.
 abbrev pub no_packet : Packet
 no_packet = record { outstanding = false; mode = marshal.Weak; object = 0; iface = 0; refs = 0 }
 
+-- What a cookie is once it is revoked, and what is read for a number that no cookie has.
 abbrev pub no_cookie : Cookie
 no_cookie = record { is_revoked = true; object = 0; iface = 0; refs = 0 }
 
+-- The packet with a number, from 1.
 abbrev pub packet : Books → ℕ → Packet
 packet b zero = no_packet
 packet b (suc p) = slice_index_or b.packets p no_packet
 
+-- The cookie with a number, from 1.
 abbrev pub cookie : Books → ℕ → Cookie
 cookie b zero = no_cookie
 cookie b (suc g) = slice_index_or b.cookies g no_cookie
@@ -61,15 +65,19 @@ pub data Change : Type 0 where
   Withdraw : (g : ℕ) → Change
   Same : Change
 
+-- A table by object and interface, with `x` at this object and interface.
 abbrev pub at2 : ℕ → ℕ → ℕ → (ℕ → ℕ → ℕ) → ℕ → ℕ → ℕ
 at2 o i x f k j = if k == o && j == i then x else f k j
 
+-- A table by apartment, object and interface, with `x` at this apartment, object and interface.
 abbrev pub at3 : ℕ → ℕ → ℕ → ℕ → (ℕ → ℕ → ℕ → ℕ) → ℕ → ℕ → ℕ → ℕ
 at3 a o i x f c k j = if c == a && (k == o && j == i) then x else f c k j
 
+-- An outstanding packet of an object's interface, with so many public references.
 abbrev pub new_packet : MarshalMode → ℕ → ℕ → ℕ → Packet
 new_packet m o i n = record { outstanding = true; mode = m; object = o; iface = i; refs = n }
 
+-- The list with another item at a number, from 1. A number that no item has changes nothing.
 abbrev pub set_from_one : {X : Type 0} → List X → ℕ → X → List X
 set_from_one xs zero x = xs
 set_from_one xs (suc k) x = slice_set xs k x
@@ -80,6 +88,7 @@ ended_packet b p = set_from_one b.packets p no_packet
 abbrev pub gain_stub : Books → ℕ → ℕ → ℕ → ℕ → ℕ → ℕ
 gain_stub b o i n = at2 o i (b.stub o i + n) b.stub
 
+-- The stub's counts with so many references less of an object's interface.
 abbrev pub lose_stub : Books → ℕ → ℕ → ℕ → ℕ → ℕ → ℕ
 lose_stub b o i n = at2 o i (b.stub o i - n) b.stub
 
@@ -166,6 +175,7 @@ change owned b (Revokes g) = Withdraw g
 abbrev pub marshal_all : ℕ → List RefValue → List Row
 marshal_all a rs = map (λ (r : RefValue). Marshals a marshal.Normal r.object r.iface) rs
 
+-- The books after the rows of an entry, in order: each is judged on the books that those before it left.
 abbrev pub entered_rows : (owned : ℕ → ℕ → Bool) → Books → List Row → Books
 entered_rows owned b rs = fold (λ x r. changed x (change owned x r)) b rs
 
@@ -174,6 +184,7 @@ abbrev pub made_since : Books → Books → List ℕ
 made_since before after =
     numbers_from (length before.packets + 1) (length after.packets - length before.packets)
 
+-- The first of the numbers, and None where there are none.
 abbrev pub first_of : List ℕ → Option ℕ
 first_of [] = None
 first_of (x ∷ xs) = Some x
@@ -185,17 +196,20 @@ given_back n places b = record b {
   proxy = λ a o i. if places a o == 0 then 0 else b.proxy a o i;
 }
 
--- Normal and strong packets hold their object, and cookies that were not revoked; a weak packet never does.
+-- Whether a packet of this mode is weak: it never holds its object, as normal and strong packets do.
 abbrev pub is_weak : MarshalMode → Bool
 is_weak marshal.Weak = true
 is_weak _ = false
 
+-- 1 where a packet holds the object: it is outstanding, of the object and not weak. Else 0.
 abbrev pub packet_holds : ℕ → Packet → ℕ
 packet_holds o p = count_if (p.outstanding && (not (is_weak p.mode) && p.object == o))
 
+-- 1 where a cookie holds the object: it is of the object and was not revoked. Else 0.
 abbrev pub cookie_holds : ℕ → Cookie → ℕ
 cookie_holds o g = count_if (not g.is_revoked && g.object == o)
 
+-- How many packets and cookies hold an object, beside the places in apartments.
 abbrev pub held_outside : Books → ℕ → ℕ
 held_outside b o = sum_by (packet_holds o) b.packets + sum_by (cookie_holds o) b.cookies
 
@@ -203,9 +217,11 @@ held_outside b o = sum_by (packet_holds o) b.packets + sum_by (cookie_holds o) b
 abbrev pub cut_packet : (ℕ → Bool) → Packet → Packet
 cut_packet live p = if live p.object then p else no_packet
 
+-- A cookie of an object that is not connected has no public reference; whether it is revoked stays.
 abbrev pub cut_cookie : (ℕ → Bool) → Cookie → Cookie
 cut_cookie live g = record g { refs = if live g.object then g.refs else 0 }
 
+-- The books where just these objects are connected, so that nobody has a public reference of another object.
 abbrev pub cut : (ℕ → Bool) → Books → Books
 cut live b = record b {
   stub = λ o i. if live o then b.stub o i else 0;
@@ -215,28 +231,34 @@ cut live b = record b {
   live = live;
 }
 
--- What proxies, packets and cookies hold of an object's interface: the stub's count is always their sum.
+-- The public references that an outstanding packet carries of an object's interface; any other packet has 0 here.
 abbrev pub packet_holds_of : (o i : ℕ) → Packet → ℕ
 packet_holds_of o i p = if p.outstanding && (p.object == o && p.iface == i) then p.refs else 0
 
+-- The public references that a cookie has of an object's interface. One that was revoked has 0.
 abbrev pub cookie_holds_of : (o i : ℕ) → Cookie → ℕ
 cookie_holds_of o i g = if g.object == o && g.iface == i then g.refs else 0
 
+-- The public references of an object's interface with the proxies of apartments 0 to n - 1, all packets and all
+-- cookies.
 abbrev pub held : ℕ → Books → (o i : ℕ) → ℕ
 held n b o i =
     sum_below n (λ a. b.proxy a o i) + sum_by (packet_holds_of o i) b.packets
     + sum_by (cookie_holds_of o i) b.cookies
 
+-- Whether a packet of this mode is normal: it ends when it is unmarshalled, where a table packet stays.
 abbrev pub is_normal : MarshalMode → Bool
 is_normal marshal.Normal = true
 is_normal _ = false
 
--- What a normal packet of an object holds, what another packet does, and what a cookie does.
+-- The public references of an outstanding normal packet of the object; any other packet has 0 here.
 abbrev pub in_normal : ℕ → Packet → ℕ
 in_normal o p = if p.outstanding && (is_normal p.mode && p.object == o) then p.refs else 0
 
+-- The public references of an outstanding strong or weak packet of the object; any other packet has 0 here.
 abbrev pub in_table : ℕ → Packet → ℕ
 in_table o p = if p.outstanding && (not (is_normal p.mode) && p.object == o) then p.refs else 0
 
+-- The public references of a cookie of the object, of whichever interface; another object's cookie has 0 here.
 abbrev pub in_cookie : ℕ → Cookie → ℕ
 in_cookie o g = if g.object == o then g.refs else 0

@@ -7,6 +7,7 @@ use Rattle.com_proxy.specs.Rows.{is_for}
 use Rattle.com_refs_books.specs.Counting.{sum_below, count_if}
 use Rattle.com_refs_holders.specs.Tables.{Tables, owns_of, made_in, direct_in}
 
+-- The places that a row counts, where it is of this apartment and this object. Another row has 0 here.
 abbrev pub local_at : (apartment object : ℕ) → ProxyRow → ℕ
 local_at a o row = if row.object == o && row.apartment == a then row.local else 0
 
@@ -14,9 +15,11 @@ local_at a o row = if row.object == o && row.apartment == a then row.local else 
 abbrev pub places_of : (apartment object : ℕ) → List ProxyRow → ℕ
 places_of a o rows = sum_by (local_at a o) rows
 
+-- How many places of an apartment that does not own the object hold it, by the tables' proxy rows.
 abbrev pub places_in : Tables → (apartment object : ℕ) → ℕ
 places_in t a o = places_of a o t.proxies
 
+-- The places that a row counts, where it is of this object, in whichever apartment. Another row has 0 here.
 abbrev pub local_for : ℕ → ProxyRow → ℕ
 local_for o row = if row.object == o then row.local else 0
 

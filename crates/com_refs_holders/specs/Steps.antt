@@ -31,6 +31,7 @@ minted_rows owned _ a o i rs = rs
 abbrev pub made_live : ℕ → Books → Books
 made_live o b = record b { live = λ x. x == o || b.live x }
 
+-- Whether an interface is one of the set.
 abbrev pub among : ℕ → List ℕ → Bool
 among i [] = false
 among i (x ∷ set) = x == i || among i set

@@ -40,9 +40,11 @@ tables objects stubs counters proxies packets cookies issued spare = record {
   spare = spare;
 }
 
+-- The row that is read for a number that no object has.
 abbrev pub no_object : ObjectRow
 no_object = record { owner = 0; agile = false; direct = 0 }
 
+-- The row of the object with a number, from 1.
 abbrev pub object_in : List ObjectRow → ℕ → ObjectRow
 object_in rows zero = no_object
 object_in rows (suc place) = slice_index_or rows place no_object
@@ -95,11 +97,15 @@ packet_read live (Some p) =
     then record { outstanding = true; mode = p.mode; object = p.object; iface = p.iface; refs = p.refs }
     else no_packet
 
+-- A cookie as the books have it: 1 public reference where its object is connected, else 0. None reads as a cookie
+-- that is revoked.
 abbrev pub cookie_read : (ℕ → Bool) → Option RefValue → Cookie
 cookie_read live None = no_cookie
 cookie_read live (Some r) =
     record { is_revoked = false; object = r.object; iface = r.iface; refs = if live r.object then 1 else 0 }
 
+-- The books that rows stand for where just the `live` objects are connected: nobody has a public reference of
+-- another object.
 abbrev pub books_by : (live : ℕ → Bool) → List CounterRow → List ProxyRow → List (Option P.Packet)
     → List (Option RefValue) → Books
 books_by live counters proxies packets cookies = record {
@@ -122,6 +128,7 @@ abbrev pub live_packet : (ℕ → Bool) → Option P.Packet → Option P.Packet
 live_packet live None = None
 live_packet live (Some p) = if live p.object then Some p else None
 
+-- The packet with a number, from 1, while its object is connected. None where the entry is empty or there is none.
 unfoldable pub outstanding_in : (ℕ → Bool) → List (Option P.Packet) → ℕ → Option P.Packet
 outstanding_in live entries number = live_packet live (held_in entries number)
 

@@ -138,7 +138,7 @@ impl Holders {
             return Ok(());
         }
         self.objects.reserve(n as usize)?;
-        self.owners.reserve(n)?;
+        self.owners.reserve(n as usize)?;
         self.stubs.reserve(n)?;
         self.proxies.reserve(n)?;
         self.packets.reserve(n)?;

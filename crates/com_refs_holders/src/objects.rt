@@ -17,6 +17,7 @@ pub(crate) fn object_at(objects: &[ObjectRow], object: u32) -> ObjectRow
     }
 }
 
+// Whether the apartment owns the object: it is its owner, or the object is agile.
 #[tactic(auto, unfolding(crate::specs::Tables::owns_of))]
 pub(crate) fn owns(objects: &[ObjectRow], object: u32, apartment: u32) -> bool
     ensures { result ≡ owns_of objects.now object apartment }
@@ -55,6 +56,7 @@ pub(crate) fn gain_direct(objects: &mut [ObjectRow], object: u32)
     }
 }
 
+// The row that is read for a number that no object has.
 const NO_OBJECT: ObjectRow = ObjectRow {
     owner: 0,
     agile: false,

@@ -23,12 +23,15 @@ pub record Held : Type 0 where
   pub calls : List CallPackets
   pub touched : List ℕ
 
+-- The books of these tables, with the packets that carry the arguments and the result of each call.
 abbrev pub books_with : Tables → List CallPackets → Books
 books_with t calls = record (books_of t) { arguments = arguments_in calls; result = result_in calls }
 
+-- The books that a ledger stands for.
 abbrev pub books_held : Held → Books
 books_held w = books_with w.tables w.calls
 
+-- A reference that comes to a place of an apartment.
 abbrev pub moved_to : ℕ → RefValue → Move
 moved_to a r = record { apartment = a; reference = r }
 
@@ -82,6 +85,7 @@ pub record Marshalled (rows : List Row) (t u : Tables) : Type 0 where
 abbrev pub with_arguments : ℕ → (before after : Books) → Books
 with_arguments c before after = record after { arguments = put c (made_since before after) after.arguments }
 
+-- The first packet that was made since carries the result of a call; if none was made, the result has none.
 abbrev pub with_answer : ℕ → (before after : Books) → Books
 with_answer c before after = record after { result = put c (first_of (made_since before after)) after.result }
 

@@ -5,6 +5,7 @@ use Rattle.com_refs_books.specs.Changes.{set_from_one}
 use Rattle.com_refs_books.specs.Counting.{numbers_from}
 use Rattle.com_refs_rows.specs.declared.calls.CallPackets.{CallPackets}
 
+-- A call whose arguments and result have no packets.
 abbrev pub no_packets : CallPackets
 no_packets = record { first = 0; count = 0; result = 0 }
 
@@ -16,16 +17,20 @@ call_at rows (suc place) = slice_index_or rows place no_packets
 abbrev pub with_result : (call result : ℕ) → List CallPackets → List CallPackets
 with_result c p rows = set_from_one rows c (record (call_at rows c) { result = p })
 
+-- The numbers of the argument packets that a row of the table has, in the order of making.
 abbrev pub arguments_of : CallPackets → List ℕ
 arguments_of row = numbers_from row.first row.count
 
+-- The packet that a number names; 0 names none.
 abbrev pub number_of : ℕ → Option ℕ
 number_of zero = None
 number_of (suc k) = Some (suc k)
 
+-- The numbers of the packets of a call's arguments; none where no call has the number.
 abbrev pub arguments_in : List CallPackets → ℕ → List ℕ
 arguments_in rows c = arguments_of (call_at rows c)
 
+-- The number of the packet of a call's result; None where it has none.
 abbrev pub result_in : List CallPackets → ℕ → Option ℕ
 result_in rows c = number_of (call_at rows c).result
 

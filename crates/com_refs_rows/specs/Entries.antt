@@ -43,6 +43,7 @@ pub record Around : Type 0 where
   pub carried : List RefValue
   pub apartment : ℕ
 
+-- What an entry rests on, of these parts.
 abbrev pub around : CallTables → ObjectTables → ClassTables → List RefValue → ℕ → Around
 around calls objects classes carried apartment = record {
   calls = calls;
@@ -57,9 +58,11 @@ pub record Tally : Type 0 where
   pub tables : Tables
   pub calls : List CallPackets
 
+-- A tally of these tables and calls.
 abbrev pub tally : Tables → List CallPackets → Tally
 tally t calls = record { tables = t; calls = calls }
 
+-- The books that a tally stands for.
 abbrev pub books_tallied : Tally → Books
 books_tallied w = books_with w.tables w.calls
 
@@ -88,7 +91,7 @@ entered s x g owned d b =
     connected d (named_at g.objects)
     (kept b d (entered_rows owned b (rows s x (left_by g.calls) b g.apartment d)))
 
--- The row of the deed ends a holder that is no place, and brings nothing.
+-- The row of the deed can end a holder that is no place, and it brings no reference.
 abbrev pub ends_holder : (left : ℕ → Bool) → Deed → Bool
 ends_holder left (deed.DropPacket p hr) = true
 ends_holder left (deed.Revoke g hr) = true
@@ -134,6 +137,8 @@ pub record Given (g : Around) (e : (ℕ → ℕ → Bool) → Books) (d : Deed) 
   pub calls : (l : ℕ) → length v.calls ≡ count_if (is_some (issues l d)) + length w.calls
   pub books : books_tallied v ≡ e (owns_of v.tables.objects)
 
+-- The row of a deed was entered, for each scenario and action by which the deed carries these references. One that
+-- ends a holder waits for the end of the entry.
 abbrev pub Gives : Around → Deed → Tally → List Move → Tally → List Move → Type 0
 Gives g d w before v after = (s : Scenario) (x : Option Action) → Carries s x (books_tallied w) d g.carried
     → Given g (λ owned. if ends_holder (left_by g.calls) d then books_tallied w
@@ -151,6 +156,8 @@ pub record Closed (e : Books) (w v : Tally) : Type 0 where
   pub books : (n : ℕ) (places later : ℕ → ℕ → ℕ) → Counts n places v.tables
       → ((c x : ℕ) → later c x ≤ places c x) → ends n later (books_tallied v) ≡ ends n later e
 
+-- For each scenario, action and way of owning: the row of a deed that ends a holder was entered, to the end of the
+-- entry; any other deed leaves the end of the books as it was.
 abbrev pub Closes : Around → Deed → Tally → Tally → Type 0
 Closes g d w v = (s : Scenario) (x : Option Action) (owned : ℕ → ℕ → Bool)
     → Closed (if ends_holder (left_by g.calls) d then entered s x g owned d (books_tallied w)
@@ -227,6 +234,8 @@ pub record Applied (e : (ℕ → ℕ → Bool) → Books) (g : Around) (d : Deed
       → Counts n places w.tables → ((c x : ℕ) → plus later lost c x ≡ plus places gained c x)
       → books_tallied v ≡ ends n later (e owned)
 
+-- An entry was applied, with the places that it gains and loses, for each scenario and action by which its deed
+-- carries these references.
 abbrev pub Applies : Around → Deed → (gained lost : List Move) → Tally → Tally → Type 0
 Applies g d gained lost w v = (s : Scenario) (x : Option Action) → Carries s x (books_tallied w) d g.carried
     → Applied (λ owned. entered s x g owned d (books_tallied w)) g d gained lost w v

@@ -19,11 +19,12 @@ use Rattle.com_slots.specs.Table.{held_in}
 use Rattle.com_stub.specs.declared.StubRow.{StubRow}
 use Rattle.com_stub.specs.StubRows.{is_connected}
 
--- An entry gives so many references at most, to packets, cookies and places, and brings so many at most to
--- places beside its row: one that an action writes, and those of a call's values.
+-- An entry gives so many references at most, to packets, cookies and places.
 abbrev pub most_given : ℕ
 most_given = 32
 
+-- An entry brings so many references at most to places, beside what its row brings there: one that an action writes,
+-- and those of a call's values.
 abbrev pub most_gained : ℕ
 most_gained = 8
 

@@ -18,10 +18,12 @@ moves_at (m ∷ ms) c x = count_if (c == m.apartment && x == m.reference.object)
 abbrev pub plus : (ℕ → ℕ → ℕ) → List Move → (apartment object : ℕ) → ℕ
 plus places ms c x = places c x + moves_at ms c x
 
+-- Each move is of an apartment with a number below this one.
 abbrev pub AllBelow : ℕ → List Move → Type 0
 AllBelow n [] = Unit {0}
 AllBelow n (m ∷ ms) = (m.apartment < n) × AllBelow n ms
 
+-- What is read behind the end of a list of moves: a reference to object 0, which is never made.
 abbrev pub no_move : Move
 no_move = record { apartment = 0; reference = record { object = 0; iface = 0 } }
 

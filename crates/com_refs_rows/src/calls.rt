@@ -19,6 +19,7 @@ pub struct CallPackets {
     pub result: u32,
 }
 
+// What a call has whose arguments and result have no packets.
 const NO_PACKETS: CallPackets = CallPackets {
     first: 0,
     count: 0,

@@ -22,6 +22,7 @@ pub fn filter(room: &mut [u8], end: usize, version: u8, filter: Option<u32>, hr:
     word(room, at, b" setfilter")
 }
 
+// Writes a message filter behind a space: its number behind its letter, or `none`.
 fn filter_word(room: &mut [u8], end: usize, filter: Option<u32>) -> usize
     requires { (24 ≤ end) × (end ≤ length room.old) }
     ensures taken { (result ≤ end) × (end ≤ result + 24) }
@@ -90,6 +91,7 @@ pub fn out_way(
     route_word(room, at, route)
 }
 
+// Writes behind a space how a call goes to its target, and `none` for a call that is refused.
 fn route_word(room: &mut [u8], end: usize, route: Route) -> usize
     requires { (8 ≤ end) × (end ≤ length room.old) }
     ensures taken { (result ≤ end) × (end ≤ result + 8) }
@@ -114,6 +116,7 @@ pub fn verdict(room: &mut [u8], end: usize, call: u32, call_type: u8, verdict: V
     word_and_number(room, at, b" verdict c", call as u64)
 }
 
+// Writes behind a space what a filter answered to an incoming call.
 fn verdict_word(room: &mut [u8], end: usize, verdict: Verdict) -> usize
     requires { (9 ≤ end) × (end ≤ length room.old) }
     ensures taken { (result ≤ end) × (end ≤ result + 9) }
@@ -157,6 +160,7 @@ pub fn enter(
     word_and_number(room, at, b" enter c", call as u64)
 }
 
+// Writes the type of a call behind a space, or a dash where the call has none.
 fn type_word(room: &mut [u8], end: usize, call_type: Option<u8>) -> usize
     requires { (21 ≤ end) × (end ≤ length room.old) }
     ensures taken { (result ≤ end) × (end ≤ result + 21) }

@@ -25,6 +25,7 @@ pub fn init(room: &mut [u8], end: usize, version: u8, mode: Mode, home: u32, hr:
     word(room, at, b" init")
 }
 
+// Writes behind a space which kind of apartment a thread asked for.
 fn mode_word(room: &mut [u8], end: usize, mode: Mode) -> usize
     requires { (4 ≤ end) × (end ≤ length room.old) }
     ensures taken { (result ≤ end) × (end ≤ result + 4) }
@@ -152,6 +153,7 @@ pub fn marshal_answer(
     word_and_number(room, at, b" ", refs as u64)
 }
 
+// Writes behind a space whether a packet is normal, strong or weak.
 fn marshal_word(room: &mut [u8], end: usize, mode: MarshalMode) -> usize
     requires { (7 ≤ end) × (end ≤ length room.old) }
     ensures taken { (result ≤ end) × (end ≤ result + 7) }

@@ -90,6 +90,7 @@ fn object(text: &mut Text, number: u64, counts: &Counts) -> Result<(), Memory>
     text.push(b"\n")
 }
 
+// Appends whether an object is connected, is disconnected and did not end yet, or ended.
 fn push_state(text: &mut Text, state: ObjectState) -> Result<(), Memory>
     ensures front { text.new.front ≡ text.old.front }
     ensures ok { OnOk result (text.new.text ≡ text.old.text ++ object_state_text state) }
@@ -101,6 +102,7 @@ fn push_state(text: &mut Text, state: ObjectState) -> Result<(), Memory>
     }
 }
 
+// Appends how a history ended: with all done, stuck, or with as many entries as it may have.
 fn push_ended(text: &mut Text, ended: Ended) -> Result<(), Memory>
     ensures front { text.new.front ≡ text.old.front }
     ensures ok { OnOk result (text.new.text ≡ text.old.text ++ ended_text ended) }

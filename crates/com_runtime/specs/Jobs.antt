@@ -31,6 +31,7 @@ next_by false true over = next.Own
 next_by false false true = next.Over
 next_by false false false = next.Wait
 
+-- What a lane does next in a state: the step of a body, another entry, or none as things stand; or it has ended.
 unfoldable pub next_in : Scenario → State → (lane : ℕ) → Next
 next_in s st l =
     next_by (is_body (first (openers_in st l))) (can_step_in s st l) (slice_index_or st.over l false)
@@ -57,6 +58,7 @@ job_above s st (Some (Enters c o a)) =
     ((scene_in st).bodies c) ((scene_in st).cells o)
 job_above s st _ = None
 
+-- The step of the body that is innermost in a lane, as a state has it; None where no body is innermost.
 unfoldable pub job_of : Scenario → State → (lane : ℕ) → Option Job
 job_of s st l = job_above s st (first (openers_in st l))
 
@@ -65,6 +67,7 @@ abbrev pub kept_above : State → Option Opener → Cells
 kept_above st (Some (Enters c o a)) = (scene_in st).cells o
 kept_above st _ = new_cells
 
+-- The cells of the object whose body is innermost in a lane; those of a new object where none is.
 unfoldable pub kept_in : State → (lane : ℕ) → Cells
 kept_in st l = kept_above st (first (openers_in st l))
 

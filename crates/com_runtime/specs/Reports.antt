@@ -26,6 +26,7 @@ counts_by s st b o = record {
   stub = over_interfaces s (b.stub o);
 }
 
+-- What the report's line of an object counts, by its number, in a state.
 unfoldable pub counts_in : Scenario → State → ℕ → Counts
 counts_in s st o = counts_by s st (books_in st) o
 

@@ -15,6 +15,7 @@ use Rattle.com_runtime.specs.Schedule.{ended_in, turn_in}
 use Rattle.com_runtime.specs.declared.runtime.Standing.{Standing}
 use Rattle.com_runtime.specs.declared.runtime.Standing.TheVariants as standing
 
+-- Whether the rules of lanes give a lane an entry in a state. The clock's entry is not asked for here.
 unfoldable pub can_step_in : Scenario → State → ℕ → Bool
 can_step_in s st l = can_step s (sight_of s st) l
 
@@ -22,6 +23,7 @@ can_step_in s st l = can_step s (sight_of s st) l
 unfoldable pub can_pick_in : Scenario → State → ℕ → Bool
 can_pick_in s st l = (nat_le 1 l && nat_le l (lanes s)) && can_step_in s st l
 
+-- Finished, stuck, at a Tick where no lane can step, or else running. The limit of entries is not asked for here.
 unfoldable pub standing_of : Scenario → State → Standing
 standing_of s st =
     if finished_by s (sight_of s st) then standing.Finished
@@ -29,9 +31,12 @@ standing_of s st =
     else if no_lane_can s (sight_of s st) then standing.Ticks
     else standing.Runs
 
+-- How the history that a state stands for has ended; None where it goes on.
 unfoldable pub ended_now : Scenario → State → Option Ended
 ended_now s st = ended_in s st
 
+-- Whose turn it is in a state, with the picks that are then left: of the first pick that can step, else in the round
+-- behind the last lane. Where no lane can step it is the clock's, if a Tick is due.
 unfoldable pub turn_now : Scenario → State → (picks : List ℕ) → (last : ℕ) → Option Turn
 turn_now s st picks last = turn_in s st picks last
 
@@ -43,6 +48,7 @@ budget_of s st = if st.entries == limit s then Some ended.Budget else None
 abbrev pub CanGo : Scenario → State → ℕ → Type 0
 CanGo s st l = (1 ≤ l) × (l ≤ lanes s) × (can_step_in s st l ≡ true)
 
+-- Whether no lane can step in a state; the clock is not asked.
 unfoldable pub none_can_in : Scenario → State → Bool
 none_can_in s st = no_lane_can s (sight_of s st)
 

@@ -32,6 +32,7 @@ unfoldable pub served_in : Scenario → State → (lane : ℕ) → List ℕ → 
 served_in s st zero steps = steps
 served_in s st (suc l) steps = one_served (body_kind s (class_in st) (first (openers_in st (suc l)))) steps
 
+-- The servants' counts after an entry of a lane that follows this history; `steps` are those before it.
 unfoldable pub served_at : Scenario → List Entry → (lane : ℕ) → List ℕ → List ℕ
 served_at s h zero steps = steps
 served_at s h (suc l) steps = one_served (body_kind s (class_of h) (first (openers h (suc l)))) steps

@@ -1,5 +1,6 @@
 -- Scenario text: the scenario that a text spells, or its first fault.
 use Rattle.std.specs.Prelude.{ℕ, List, ◌++◌, drop, Result, Ok}
+use Rattle.com_base.specs.declared.built_ins.TheConstants.{BUILT_IN_COUNT}
 use Rattle.com_classes.specs.Tables.{Tables}
 use Rattle.com_classes.specs.BuiltIns.{built_in_interfaces}
 use Rattle.com_classes.specs.declared.interfaces.Interface.{Interface}
@@ -14,8 +15,9 @@ use Rattle.com_read_sections.specs.Outlines.{begun, read}
 -- the tables of interfaces and classes: the built-in interfaces come first in both lists
 abbrev pub tables_of : List Interface → List Class → Tables
 tables_of interfaces classes =
-    record { interfaces = built_in_interfaces ++ drop 4 interfaces; classes = classes }
+    record { interfaces = built_in_interfaces ++ drop BUILT_IN_COUNT interfaces; classes = classes }
 
+-- The scenario that the lines of a text declare, with the built-in interfaces before its own.
 abbrev pub scenario_of : Outline → Scenario
 scenario_of o = record {
   version = o.version;

@@ -32,6 +32,7 @@ abbrev pub second_version : List LineAt → Option SecondVersion
 second_version [] = None
 second_version (l ∷ ls) = or_later (says_version_2 l.words) (second_version ls)
 
+-- Whether a text begins with `scenario 2`, and no more words stand in that line.
 abbrev pub ends_so : Option SecondVersion → Bool
 ends_so None = false
 ends_so (Some header) = header.ends

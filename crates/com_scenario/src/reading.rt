@@ -14,7 +14,7 @@ use std::alloc::{AllocError, Global};
 
 // The interfaces that a text declares itself.
 fn declared_interfaces(mut interfaces: Vec<Interface>) -> Result<Vec<Interface>, Memory>
-    ensures { IfOk result (λ v. v.items ≡ drop 4 interfaces.items) }
+    ensures { IfOk result (λ v. v.items ≡ drop BUILT_IN_COUNT interfaces.items) }
 {
     let from = interfaces.len().min(BUILT_IN_COUNT);
     interfaces.split_off(from)

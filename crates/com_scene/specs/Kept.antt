@@ -23,6 +23,8 @@ abbrev pub FitsActor : Acting → FrameView → Type 0
 FitsActor (Script l) f = HasSlots f
 FitsActor _ f = Unit {0}
 
+-- Whoever acts makes a step of which this is the outcome: it fits the actor, and its writes are in range.
+-- Of no outcome nothing is asked.
 abbrev pub IsStep : Acting → Option Outcome → Type 0
 IsStep a None = Unit {0}
 IsStep a (Some r) = FitsActor a r.frame × WritesInRange r.action

@@ -18,6 +18,7 @@ new_scene n = record {
   destinations = tabulated 1 (λ c. destination.Nowhere);
 }
 
+-- The frame of whoever acts: that of the call's body or of the lane's script, and an empty one where nobody acts.
 abbrev pub frame_of : SceneTables → Acting → FrameView
 frame_of t (Body c o) = body_at t c
 frame_of t (Script l) = script_at t l

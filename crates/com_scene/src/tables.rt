@@ -89,6 +89,7 @@ impl Seat {
         mem::swap(&mut *self.frame, frame);
     }
 
+    // The frame gets the HRESULT of a call, and the result where the call was to put it.
     fn receive(&mut self, hr: HResult, to: Destination, value: Option<Value>)
         requires { IsDestination to }
         ensures { self.new ≡ fold frame_with self.old (to_answer hr ∷ to_destination to value) }
@@ -176,6 +177,7 @@ impl CallRow {
         seat.receive(hr, to, value);
     }
 
+    // The result of the call is to go to this destination, in the frame of whoever calls.
     fn want(&mut self, destination: Destination)
         ensures frame { self.new.frame ≡ self.old.frame }
         ensures destination { self.new.destination ≡ destination }

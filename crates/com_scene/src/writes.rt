@@ -221,6 +221,8 @@ impl Writes {
     }
 }
 
+// Does the write that an action's destination takes, to the frame or the cells, and gives the
+// bytes where it is for a buffer.
 fn put_more(more: Option<Write>, frame: &mut Frame, cells: &mut Cells) -> Option<Bytes>
     requires { IsMoreInRange more }
     ensures frame { frame.new ≡ fold frame_with frame.old (listed None more) }

@@ -4,12 +4,14 @@ use Rattle.std.specs.Prelude.{slice_index, slice_set}
 use Rattle.com_body.specs.declared.frame.Native.{Native}
 use Rattle.com_body.specs.declared.frame.Native.TheVariants as native
 
+-- Where the servant of a kind stands in the row, from 0.
 abbrev pub index_of : Native → ℕ
 index_of native.Bodies = 0
 index_of native.Counter = 1
 index_of native.Relay = 2
 index_of native.Latch = 3
 
+-- The kinds of the servants, in the order of the row.
 abbrev pub row : List Native
 row = native.Bodies ∷ native.Counter ∷ native.Relay ∷ native.Latch ∷ []
 

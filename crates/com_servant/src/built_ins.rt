@@ -22,8 +22,10 @@ use std::alloc::Global;
 // The registers of the built-in bodies: the argument, the number that a body works on, the answer of a test.
 const ARGUMENT: u8 = 0;
 
+// The register of a body's number: that of cell 0, the sum, or the result of the call in `forward`.
 const NUMBER: u8 = 1;
 
+// The register of the result of `test`.
 const ANSWER: u8 = 2;
 
 // The number of a value, and 0 where it is none.
@@ -108,6 +110,8 @@ fn counter_get(alloc: Global, job: &Job) -> Result<Outcome, Memory>
     leave_with(frame, job.cells, NUMBER, 2)
 }
 
+// The next step of a counter's body: plain code at the start of ICounter.add and ICounter.get,
+// and the interpreter at any other job.
 #[tactic(auto, using(crate::proofs::Bodies::job_is))]
 fn counter_step(alloc: Global, classes: &Classes, job: &Job) -> Result<Outcome, Memory>
     requires { native_at classes.now job.now.class ≡ Some native.Counter }
@@ -199,6 +203,8 @@ fn relay_leave(alloc: Global, job: &Job) -> Result<Outcome, Memory>
     Ok(at_place(frame, job.cells, action, 3))
 }
 
+// The next step of a relay's body: plain code at each place of IRelay.set and IRelay.forward
+// where a step begins, and the interpreter at any other job.
 #[tactic(auto, using(crate::proofs::Bodies::job_is))]
 fn relay_step(alloc: Global, classes: &Classes, job: &Job) -> Result<Outcome, Memory>
     requires { native_at classes.now job.now.class ≡ Some native.Relay }
@@ -249,6 +255,8 @@ fn latch_test(alloc: Global, job: &Job) -> Result<Outcome, Memory>
     leave_with(frame, job.cells, ANSWER, 5)
 }
 
+// The next step of a latch's body: plain code at the start of ILatch.set and ILatch.test, and
+// the interpreter at any other job.
 #[tactic(auto, using(crate::proofs::Bodies::job_is))]
 fn latch_step(alloc: Global, classes: &Classes, job: &Job) -> Result<Outcome, Memory>
     requires { native_at classes.now job.now.class ≡ Some native.Latch }

@@ -25,6 +25,7 @@ abbrev pub filtered_by : (filtered : ℕ → Bool) → Deed → Bool
 filtered_by filtered (deed.Verdict c t v) = filtered c
 filtered_by filtered _ = false
 
+-- What an entry finds of other parts in the state before it. Only a Verdict asks for a filter.
 abbrev pub moment_in : Scenario → State → Entry → Moment
 moment_in s st e = record {
   is_outermost = is_none (running_call (openers_in st e.lane));
@@ -61,9 +62,11 @@ joined_after s st e =
 abbrev pub acting_in : Scenario → State → Entry → Actor
 acting_in s st e = acting s (class_in st) (issue_in st) (scene_in st) (actor_of s st e.lane) e.deed
 
+-- The body step of whoever makes the entry; None where nobody acts, as by a Final or an Uninit after the script's end.
 abbrev pub step_in : Scenario → State → Entry → Option Outcome
 step_in s st e = outcome s (class_in st) (issue_in st) (scene_in st) (acting_in s st e)
 
+-- Who acts in the entry's lane after it: the body that is innermost then, a thread's script, or nobody.
 abbrev pub actor_after : Scenario → State → Entry → Actor
 actor_after s st e = actor (lane_sort s e.lane) e.lane (openers_at (lanes_after (lanes_of st) e) e.lane)
 

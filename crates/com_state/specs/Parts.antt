@@ -63,6 +63,7 @@ pub record CallTables : Type 0 where
   pub postings : List ℕ
   pub causes : ℕ
 
+-- What a state has of lanes and of the STAs that threads made.
 abbrev pub lanes_of : State → LaneTables
 lanes_of st = record {
   openers = st.openers;
@@ -78,9 +79,11 @@ lanes_of st = record {
   ended = st.ended;
 }
 
+-- What a state has of objects.
 abbrev pub objects_of : State → ObjectTables
 objects_of st = record { makings = st.makings; finaled = st.finaled }
 
+-- What a state has of calls.
 abbrev pub calls_of : State → CallTables
 calls_of st = record {
   issues = st.issues;
@@ -96,6 +99,7 @@ calls_of st = record {
   causes = st.causes;
 }
 
+-- The state that has these parts.
 abbrev pub state_of : LaneTables → ObjectTables → CallTables → SceneTables → BookTables → (fallen : List ℕ)
     → (clock entries : ℕ) → State
 state_of l o c scene books fallen clock entries = record {
@@ -132,12 +136,16 @@ state_of l o c scene books fallen clock entries = record {
 
 -- ---- lanes
 
+-- The openers of a lane, the innermost first; none where the lane has no row.
 abbrev pub openers_at : LaneTables → ℕ → List Opener
 openers_at t l = slice_index_or t.openers l []
 
+-- How many bodies have left that the lane's last pump admitted directly; 0 where the lane has no row.
 abbrev pub served_at : LaneTables → ℕ → ℕ
 served_at t l = slice_index_or t.served l 0
 
+-- The tables of lanes after an entry. It changes the row of its own lane, and a Post or a Quit that of the lane which
+-- it names; an STA that begins or ends is put last.
 abbrev pub lanes_after : LaneTables → Entry → LaneTables
 lanes_after t e = record {
   openers = changed_at (opens (effect e.deed)) e.lane [] t.openers;
@@ -159,15 +167,19 @@ lanes_after t e = record {
 
 -- ---- objects
 
+-- The object's number, apartment and class, as its Made names them; None where no object has the number.
 abbrev pub making_at : ObjectTables → ℕ → Option Making
 making_at t o = from_one t.makings o None
 
+-- The apartment that the object's Made names; 0 where no object has the number.
 abbrev pub named_at : ObjectTables → ℕ → ℕ
 named_at t o = number_or_zero (option_map (λ (m : Making). m.apartment) (making_at t o))
 
+-- The class of an object, by its number; 0 where no object has the number.
 abbrev pub class_at : ObjectTables → ℕ → ℕ
 class_at t o = number_or_zero (option_map (λ (m : Making). m.class) (making_at t o))
 
+-- The tables of objects after an entry: a Made adds the object that it makes, a Final one to those that were released.
 abbrev pub objects_after : ObjectTables → Entry → ObjectTables
 objects_after t e = record {
   makings = grown (is_some (makes e.deed)) (makes e.deed) t.makings;
@@ -188,26 +200,33 @@ pub record Moment : Type 0 where
   pub filtered : Bool
   pub clock : ℕ
 
+-- What the Out of a call says; None where no call has the number.
 abbrev pub issue_at : CallTables → ℕ → Option Issue
 issue_at t c = from_one t.issues c None
 
+-- What the Enter of a call says; None before it.
 abbrev pub admission_at : CallTables → ℕ → Option Admission
 admission_at t c = from_one t.admissions c None
 
+-- What an entry does to the answers of calls; a Verdict ends its call only where the caller's lane has no filter.
 abbrev pub end_effect_at : Moment → Entry → EndEffect
 end_effect_at m e = end_effect (λ c. m.filtered) e.deed
 
+-- The ending that such an effect gives to a call, if any. A disconnection reaches it by its target, or by the
+-- apartment that the target's Made names, and only while it can be cut.
 abbrev pub ends_at : ObjectTables → CallTables → EndEffect → ℕ → Option Ending
 ends_at o t x c =
     ends x c (object_of (issue_at t c)) (named_at o (object_of (issue_at t c)))
     (can_be_cut (issue_at t c) (admission_at t c))
 
+-- The endings of calls after an entry; a call that has one keeps it.
 abbrev pub endings_after : ObjectTables → CallTables → EndEffect → List (Option Ending) → List (Option Ending)
 endings_after o t EndsNone xs = xs
 endings_after o t (EndsCall c x) xs = changed_from_one (Some (λ y. or_else y (Some x))) c None xs
 endings_after o t (CutsObject p) xs = each_from (λ c y. or_else y (ends_at o t (CutsObject p) c)) 1 xs
 endings_after o t (CutsSta a) xs = each_from (λ c y. or_else y (ends_at o t (CutsSta a) c)) 1 xs
 
+-- The values that calls sent, after an entry: those of a call that it enters or ends are not kept any more.
 abbrev pub unread_after : ObjectTables → CallTables → Option Admission → EndEffect → List (List Value)
     → List (List Value)
 unread_after o t None EndsNone xs = xs

@@ -23,27 +23,35 @@ use Rattle.com_model.specs.Frames.{with_link, writes, to_answer, to_destination}
 use Rattle.com_model.specs.State.{SceneTables, grown, issued_by}
 use Rattle.std.specs.Prelude.{is_some}
 
+-- The frame of a lane's script; that of a script which has not begun where the lane has no row.
 abbrev pub script_at : SceneTables → ℕ → FrameView
 script_at t l = slice_index_or t.scripts l (entered [])
 
+-- The frame of a call's body; without values and at its beginning where the call has no row.
 abbrev pub body_at : SceneTables → ℕ → FrameView
 body_at t c = slice_index_or t.bodies c (entered [])
 
+-- The cells of an object; those of a new one where it has no row.
 abbrev pub cells_at : SceneTables → ℕ → Cells
 cells_at t o = slice_index_or t.cells o new_cells
 
+-- Where the result of a call is to go: nowhere, where the call has no row.
 abbrev pub destination_at : SceneTables → ℕ → Destination
 destination_at t c = slice_index_or t.destinations c destination.Nowhere
 
+-- The scene with this frame for a lane's script, where the lane has a row.
 abbrev pub with_script : SceneTables → ℕ → FrameView → SceneTables
 with_script t l f = record t { scripts = slice_set t.scripts l f }
 
+-- The scene with this frame for a call's body, where the call has a row.
 abbrev pub with_body : SceneTables → ℕ → FrameView → SceneTables
 with_body t c f = record t { bodies = slice_set t.bodies c f }
 
+-- The scene with these cells for an object, where it has a row.
 abbrev pub with_cells : SceneTables → ℕ → Cells → SceneTables
 with_cells t o x = record t { cells = slice_set t.cells o x }
 
+-- The scene with these bytes in a packet buffer, where it has a row.
 abbrev pub with_buffer : SceneTables → ℕ → List ℕ → SceneTables
 with_buffer t p bytes = record t { buffers = slice_set t.buffers p bytes }
 
@@ -69,6 +77,7 @@ script_written t l (ToSlot k held) = with_script t l (with_slot (script_at t l) 
 script_written t l (ToLink k held) = t
 script_written t l (ToBuffer p bytes) = with_buffer t p bytes
 
+-- One write of an entry: a body's, or a script's. Where nobody acts nothing is written.
 abbrev pub row_written : Actor → SceneTables → Write → SceneTables
 row_written (Body c o) t x = body_written t c o x
 row_written (Script l) t x = script_written t l x
@@ -86,6 +95,8 @@ row_wanted (action.Call held i m args to) (deed.Out c o j n r k bytes) t =
     record t { destinations = slice_set t.destinations c to }
 row_wanted _ d t = t
 
+-- What an entry's action leaves: the frame and cells of its step, then its writes, then where the result of a call
+-- is to go. Without a step all stays.
 abbrev pub rows_acted : Actor → Option Outcome → Deed → SceneTables → SceneTables
 rows_acted a None d t = t
 rows_acted a (Some r) d t =
@@ -104,10 +115,11 @@ rows_arrived b l (deed.Uninit a zero) t =
 rows_arrived b l (deed.Final o) t = with_cells t o (record (cells_at t o) { links = replicate LINK_COUNT None })
 rows_arrived b l _ t = t
 
--- The end of an STA makes the links of all its objects null.
+-- The cells of an object with all its links null.
 abbrev pub without_links : Cells → Cells
 without_links c = record c { links = replicate LINK_COUNT None }
 
+-- The scene with null links for all objects whose Made names the STA that ends, if one ends.
 abbrev pub links_cut : (named : ℕ → ℕ) → Option ℕ → SceneTables → SceneTables
 links_cut named None t = t
 links_cut named (Some a) t =

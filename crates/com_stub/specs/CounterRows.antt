@@ -7,6 +7,7 @@ use Rattle.com_stub.specs.declared.counters.CounterRow.{CounterRow}
 abbrev pub is_for : ℕ → ℕ → CounterRow → Bool
 is_for object iface row = (row.object == object) && (row.iface == iface)
 
+-- a row of an object and an interface that counts no reference
 abbrev pub no_counter : ℕ → ℕ → CounterRow
 no_counter object iface = record { object = object; iface = iface; count = 0 }
 
@@ -35,6 +36,7 @@ changed_counter change object iface (row ∷ rows) =
 abbrev pub more : ℕ → CounterRow → CounterRow
 more n row = record row { count = row.count + n }
 
+-- so many references less, and none where there are not so many
 abbrev pub less : ℕ → CounterRow → CounterRow
 less n row = record row { count = row.count - n }
 

@@ -6,6 +6,7 @@ use Rattle.com_stub.specs.declared.StubRow.{StubRow}
 abbrev pub no_stub : ℕ → StubRow
 no_stub object = record { object = object; is_connected = false }
 
+-- there is a row of the object, whether its stub is connected or not
 abbrev pub has_stub : List StubRow → ℕ → Bool
 has_stub [] object = false
 has_stub (row ∷ rows) object = (row.object == object) || has_stub rows object
@@ -15,6 +16,7 @@ abbrev pub stub_of : List StubRow → ℕ → StubRow
 stub_of [] object = no_stub object
 stub_of (row ∷ rows) object = if row.object == object then row else stub_of rows object
 
+-- the object has a stub, and that is connected
 abbrev pub is_connected : List StubRow → ℕ → Bool
 is_connected rows object = (stub_of rows object).is_connected
 
@@ -27,6 +29,7 @@ stub_index (row ∷ rows) object = if row.object == object then 0 else stub_inde
 abbrev pub ended_row : ℕ → StubRow → StubRow
 ended_row object row = if row.object == object then record row { is_connected = false } else row
 
+-- the stub of the object is no longer connected, and those of the others are as before
 abbrev pub ended_rows : ℕ → List StubRow → List StubRow
 ended_rows object rows = map (ended_row object) rows
 

@@ -85,14 +85,14 @@ impl Counters {
 
     /// Makes room for `n` more counters. The only error is want of memory: then the counters are as before.
     /// It does not come where there is that room already.
-    pub fn reserve(&mut self, n: u32) -> Result<(), AllocError>
+    pub fn reserve(&mut self, n: usize) -> Result<(), AllocError>
         ensures room { OnOk result (n ≤ self.new.spare) }
         ensures rows { self.new.rows ≡ self.old.rows }
         ensures spare { self.old.spare ≤ self.new.spare }
         ensures succeeds { n ≤ self.old.spare → IsOk result }
     {
         self.chains.reserve(n)?;
-        self.rows.reserve(n as usize)
+        self.rows.reserve(n)
     }
 
     /// A counter of the object's interface, at 0, where there is none yet. Room for one was made before.

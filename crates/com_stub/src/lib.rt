@@ -64,7 +64,7 @@ impl Model for Stubs {
 }
 
 /// The most interfaces that an object's set has: IUnknown, and 16 of its class.
-pub const MOST_INTERFACES: u32 = 17;
+pub const MOST_INTERFACES: usize = 17;
 
 // True exactly where the object has a stub that is connected.
 fn is_live(stubs: &[StubRow], chains: &Chains, object: u32) -> bool
@@ -109,10 +109,10 @@ impl Stubs {
         ensures counters { self.new.counters ≡ self.old.counters }
         ensures spare { self.old.spare ≤ self.new.spare }
     {
-        let counters = n.checked_mul(MOST_INTERFACES).ok_or(Memory)?;
-        self.counters.reserve(counters)?;
-        self.chains.reserve(n)?;
-        self.stubs.reserve(n as usize)
+        let stubs = n as usize;
+        self.counters.reserve(stubs * MOST_INTERFACES)?;
+        self.chains.reserve(stubs)?;
+        self.stubs.reserve(stubs)
     }
 
     /// Gives an object a connected stub, with a count of 0 for each interface of its set.

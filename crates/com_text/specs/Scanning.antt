@@ -22,6 +22,7 @@ class_of b next =
     else (if b == 59 then classes.Semicolon
     else classes.Other))))
 
+-- whether a byte ends a line, as byte 10 alone does
 abbrev pub ends_line : Class → Bool
 ends_line classes.LineEnd = true
 ends_line _ = false
@@ -72,6 +73,7 @@ strayed (Some k) c column = Some k
 strayed None classes.Bad column = Some column
 strayed None _ column = None
 
+-- behind a byte, by what stands there then: the word or comment has this byte too, or a next word may begin
 abbrev pub moved : Scanning → ℕ → Class → Within → Scanning
 moved s b c within.Nothing =
     record {
@@ -102,6 +104,7 @@ after s b c = moved s b c (turn s.stands c s.bytes)
 
 -- ---- the words that end
 
+-- the sort of a word that ends: its own, but `Stray` where a byte of it is outside the characters, in this column
 abbrev pub sorted : Option ℕ → Sort → Sort
 sorted None sort = sort
 sorted (Some k) sort = sorts.Stray k
@@ -119,10 +122,12 @@ word_of s sort bytes more =
       bytes = bytes;
     }
 
+-- what a comment gives where it ends: no word, but one where its byte in this column is outside the characters
 abbrev pub remark : Scanning → Option ℕ → List WordAt
 remark s None = []
 remark s (Some k) = word_of s (sorts.Remark k) s.bytes 0 ∷ []
 
+-- the word that a line's end closes, by what stands before it; a literal is unclosed there
 abbrev pub closed_by : Scanning → Within → List WordAt
 closed_by s within.Nothing = []
 closed_by s within.Plain = word_of s (sorted s.stray sorts.Plain) s.bytes 0 ∷ []
@@ -137,6 +142,7 @@ closing s = closed_by s s.stands
 abbrev pub literal : Scanning → ℕ → Sort → WordAt
 literal s b sort = word_of s (sorted s.stray sort) (s.bytes ++ b ∷ []) 1
 
+-- the word that a byte ends, by what stands before it: a blank ends a plain word, a quotation mark a literal
 abbrev pub gave_by : Scanning → ℕ → Within → Class → List WordAt
 gave_by s b within.Plain classes.Blank = word_of s (sorted s.stray sorts.Plain) s.bytes 0 ∷ []
 gave_by s b within.Text classes.Quote = literal s b sorts.Text ∷ []

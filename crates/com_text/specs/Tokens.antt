@@ -13,6 +13,7 @@ use Rattle.com_text.specs.declared.token.TextError.TheVariants as errors
 use Rattle.com_text.specs.Words.{WordAt, LineAt}
 use Rattle.com_text.specs.Scanning.{class_of}
 
+-- whether the byte is outside the characters
 abbrev pub is_bad : Class → Bool
 is_bad classes.Bad = true
 is_bad _ = false
@@ -22,6 +23,7 @@ abbrev pub stray_from : ℕ → List ℕ → Option ℕ
 stray_from k [] = None
 stray_from k (b ∷ bs) = if is_bad (class_of b (slice_index bs 0)) then Some k else stray_from (k + 1) bs
 
+-- the index of a text's first byte outside the characters
 abbrev pub first_stray : List ℕ → Option ℕ
 first_stray text = stray_from 0 text
 

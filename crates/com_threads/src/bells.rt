@@ -9,18 +9,22 @@ use std::{array, thread};
 // As many bells as a turnstile has passes at most.
 const BELLS: usize = 64;
 
-// What a bell's word has before its lane's worker has begun, and then while it is awake, is away, dozes,
-// sleeps, and once it is gone.
+// The word of a bell whose lane's worker has not begun.
 const ABSENT: u64 = 0;
 
+// The word while the worker is at the lock, or on its way to it.
 const AWAKE: u64 = 1;
 
+// The word while the worker computes a step, or the gate holds it.
 const AWAY: u64 = 2;
 
+// The word while the worker waits, and looks at its bell.
 const DOZES: u64 = 3;
 
+// The word while the worker sleeps, or is about to.
 const ASLEEP: u64 = 4;
 
+// The word once the worker has ended.
 const GONE: u64 = 5;
 
 // How often a worker that dozes looks at its bell before it sleeps.
@@ -66,6 +70,7 @@ impl Bells {
         }
     }
 
+    // The word of a lane. Lanes whose numbers are `BELLS` apart have one word.
     fn of(&self, lane: u32) -> &AtomicU64 {
         &self.words[(lane % BELLS as u32) as usize]
     }

@@ -64,8 +64,8 @@ impl<C: Jobs + Drop, J: Plays> Book<C, J> {
         })
     }
 
-    #[tactic(auto, using(crate::proofs::Added::at_named, crate::proofs::Added::named_at, crate::proofs::Added::adds_none))]
     // One turn of a lane's worker. Once memory was wanting, each lane is over.
+    #[tactic(auto, using(crate::proofs::Added::at_named, crate::proofs::Added::named_at, crate::proofs::Added::adds_none))]
     pub(crate) fn turn(
         &mut self,
         alloc: Global,
@@ -91,8 +91,8 @@ impl<C: Jobs + Drop, J: Plays> Book<C, J> {
         }
     }
 
-    #[tactic(auto, using(crate::proofs::Added::reached_at))]
     // Whether the worker of a lane has something to do.
+    #[tactic(auto, using(crate::proofs::Added::reached_at))]
     pub(crate) fn calls(&self, lane: u32) -> bool {
         if self.has_failed {
             return true;

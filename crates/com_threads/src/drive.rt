@@ -39,9 +39,9 @@ fn stand<C: Jobs>(runtime: &C, chosen: Option<Chosen>) -> Standing
 }
 
 impl<C: Jobs + Drop> Desk<C> {
-    #[tactic(auto, using(crate::proofs::Added::reached_at, crate::proofs::Added::one_later, crate::proofs::Added::few_entries, crate::proofs::Added::row_of_next))]
     // The next entry of a lane that can step, with the servants of that lane. The rows are those of the last
     // lane first.
+    #[tactic(auto, using(crate::proofs::Added::reached_at, crate::proofs::Added::one_later, crate::proofs::Added::few_entries, crate::proofs::Added::row_of_next))]
     fn step(
         &mut self,
         alloc: Global,

@@ -44,8 +44,8 @@ pub struct Ran {
     pub commits: Rows<u64>,
 }
 
-#[tactic(auto, using(crate::proofs::Added::reached_of, crate::proofs::Added::ended_told, crate::proofs::Added::counts_told))]
 // What is answered of a runtime whose history has ended so.
+#[tactic(auto, using(crate::proofs::Added::reached_of, crate::proofs::Added::ended_told, crate::proofs::Added::counts_told))]
 fn answer<C: Jobs + Drop>(
     alloc: Global,
     scenario: &Scenario,
@@ -82,8 +82,8 @@ fn processors<R: Threads>(rt: &R) -> u32 {
     }
 }
 
-#[tactic(auto, using(crate::proofs::Added::first_told, crate::proofs::Added::few_passes, crate::proofs::Added::few_sum, crate::proofs::Added::at_named))]
 // A run whose book names the scenario.
+#[tactic(auto, using(crate::proofs::Added::first_told, crate::proofs::Added::few_passes, crate::proofs::Added::few_sum, crate::proofs::Added::at_named))]
 fn run_named<
     C: Jobs + Drop + Send,
     J: Plays + Send + Sync,

@@ -261,12 +261,14 @@ struct Bells {
 }
 
 impl Bells {
+    // One bell for each ticket that may be out; none is set.
     fn new() -> Bells {
         Bells {
             words: array::from_fn(|_| AtomicU64::new(SILENT)),
         }
     }
 
+    // The bell of a ticket. Tickets that are 64 apart have one bell between them.
     fn of(&self, ticket: u64) -> &AtomicU64 {
         &self.words[(ticket % TICKETS_OUT as u64) as usize]
     }

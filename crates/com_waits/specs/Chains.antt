@@ -18,6 +18,7 @@ lane_named Message = None
 lane_named (Body c m) = Some m
 lane_named (Pool c m) = Some m
 
+-- Whether a lane that waits so waits for a message, and for no other lane.
 abbrev pub is_message : Why → Bool
 is_message Message = true
 is_message (Body c m) = false
@@ -33,41 +34,44 @@ abbrev pub first_in : List Wait → Option ℕ
 first_in [] = None
 first_in (w ∷ ws) = if is_message w.why then first_in ws else Some w.lane
 
--- The lanes of a list from one on, and those before it.
+-- The lanes of a list from the first that is this one on; none where it is not in the list.
 abbrev pub from_lane : ℕ → List ℕ → List ℕ
 from_lane l [] = []
 from_lane l (x ∷ xs) = if x == l then x ∷ xs else from_lane l xs
 
+-- The lanes of a list before the first that is this one; all of them where it is not in the list.
 abbrev pub before_lane : ℕ → List ℕ → List ℕ
 before_lane l [] = []
 before_lane l (x ∷ xs) = if x == l then [] else x ∷ before_lane l xs
 
--- The cycle that a chain enters: the chain goes on from a lane, and these lanes came before, in the chain's
--- order. It ends without cycle where a lane waits for a message. As many steps as there are lanes that wait,
--- and one more, are enough.
+-- The cycle that `go` finds from the next lane on, where these lanes came before, in the chain's order; empty where
+-- there is no next lane.
 abbrev pub goes_on : (List ℕ → ℕ → List ℕ) → List ℕ → Option ℕ → List ℕ
 goes_on go chain None = []
 goes_on go chain (Some m) = go chain m
 
+-- The cycle that the chain enters from a lane, in at most so many steps; empty where it enters none in these.
 abbrev pub entered : (next : ℕ → Option ℕ) → (steps : ℕ) → (chain : List ℕ) → ℕ → List ℕ
 entered next zero chain l = []
 entered next (suc n) chain l =
     if is_member l chain then from_lane l chain else goes_on (entered next n) (chain ++ l ∷ []) (next l)
 
--- The cycle turned so that it begins at its least lane.
+-- The cycle turned so that it begins at this lane; empty without one.
 abbrev pub from_least_of : List ℕ → Option ℕ → List ℕ
 from_least_of xs None = []
 from_least_of xs (Some m) = from_lane m xs ++ before_lane m xs
 
+-- A cycle in its own order, but from its least lane on; an empty one stays empty.
 abbrev pub from_least : List ℕ → List ℕ
 from_least xs = from_least_of xs (least xs)
 
--- The cycle that the chain of the least lane enters that does not wait for a message; empty where each lane
--- does.
+-- The cycle that the chain of this lane enters, from its least lane on; empty without a lane. As many steps as there
+-- are lanes that wait, and one more, are enough.
 abbrev pub cycle_from : List Wait → Option ℕ → List ℕ
 cycle_from ws None = []
 cycle_from ws (Some l) = from_least (entered (next_in ws) (length ws + 1) [] l)
 
+-- The cycle that an explanation names, by the rows of all lanes that wait. It is empty where it names none.
 abbrev pub cycle_of : List Wait → List ℕ
 cycle_of ws = cycle_from ws (first_in ws)
 
@@ -75,8 +79,10 @@ cycle_of ws = cycle_from ws (first_in ws)
 abbrev pub explained : List Wait → Waits
 explained ws = record { waits = ws; cycle = cycle_of ws }
 
+-- Each lane that waits in a history, with its reason, and the cycle. It is meant of a history that is stuck.
 abbrev pub explanation : Scenario → List Entry → Waits
 explanation s h = explained (waits_of s h)
 
+-- Why a history is stuck, and None exactly where it is not.
 abbrev pub explanation_of : Scenario → List Entry → Option Waits
 explanation_of s h = if stuck s h then Some (explanation s h) else None

@@ -60,12 +60,14 @@ abbrev pub IsRing : Scenario → List Entry → List ℕ → Type 0
 IsRing s h [] = ⊥
 IsRing s h (l ∷ ls) = RunsTo s h (l ∷ ls) l
 
+-- Whether a reason is that a call waits for a lane of the pool.
 abbrev pub is_pool : Option Why → Bool
 is_pool None = false
 is_pool (Some reason.Message) = false
 is_pool (Some (reason.Body c m)) = false
 is_pool (Some (reason.Pool c m)) = true
 
+-- Whether a lane waits for the pool to take its call.
 abbrev pub is_at_pool : Scenario → List Entry → ℕ → Bool
 is_at_pool s h l = is_pool (why s h l)
 

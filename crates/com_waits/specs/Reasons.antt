@@ -24,10 +24,14 @@ use Rattle.com_waits.specs.declared.reasons.Wait.{Wait}
 abbrev pub pool_lane : Scenario → ℕ
 pool_lane s = host_lane s + 1
 
+-- Why a lane waits at the Out of a call, by the call's Enter: for the body where there is one; else for the pool,
+-- where the call is in the inbox of the multithreaded apartment. In another inbox no reason is given.
 abbrev pub why_at_call : Scenario → List Entry → (call : ℕ) → Option Admission → Option Why
 why_at_call s h c (Some a) = Some (Body c a.lane)
 why_at_call s h c None = where_true (is_member c (inbox s h mta)) (Pool c (pool_lane s))
 
+-- Why a lane waits, by its topmost opener: at a pump for a message, at an Out as its call does. A lane whose body
+-- acts, or in which nothing is open, has no reason.
 abbrev pub why_at : Scenario → List Entry → Option Opener → Option Why
 why_at s h None = None
 why_at s h (Some (opener.Pumps n)) = Some Message
@@ -38,6 +42,7 @@ why_at s h (Some (opener.Enters c o a)) = None
 abbrev pub why : Scenario → List Entry → ℕ → Option Why
 why s h l = why_at s h (first (openers h l))
 
+-- A lane that waits, with its reason.
 abbrev pub wait_of : ℕ → Why → Wait
 wait_of l y = record { lane = l; why = y }
 

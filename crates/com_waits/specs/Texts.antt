@@ -34,6 +34,7 @@ waits_text w = wait_lines w.waits ++ cycle_line w.cycle
 abbrev pub not_stuck_line : List ℕ
 not_stuck_line = codes "not stuck\n"
 
+-- The text of an explanation, and the line `not stuck` where there is none.
 abbrev pub text_of : Option Waits → List ℕ
 text_of None = not_stuck_line
 text_of (Some w) = waits_text w

@@ -19,6 +19,7 @@ fn lane_named(why: Why) -> Option<u32>
     }
 }
 
+// Whether a lane that waits so waits for a message, and for no other lane.
 fn is_message(why: Why) -> bool
     ensures { result ≡ is_message why }
 {
@@ -130,6 +131,7 @@ fn cycle_from(alloc: Global, waits: &[Wait], lane: u32) -> Result<Vec<u32>, Memo
     Ok(Vec::new(alloc))
 }
 
+// The lesser of a lane and another, if there is another.
 fn lesser(lane: u32, least: Option<u32>) -> Option<u32>
     ensures { result ≡ lesser lane least }
 {

@@ -103,18 +103,21 @@ pub fn waits_stuck(alloc: Global, scenario: &Scenario, history: &[Entry]) -> Res
     explain_rows(alloc, numbers, history)
 }
 
+// Whether two reasons are equal, in the call and the lane too where they name them.
 fn same_why(left: Why, right: Why) -> bool
     ensures { IsTrue result ↔ (left ≡ right) }
 {
     left == right
 }
 
+// Whether two rows are of one lane and give one reason.
 fn same_wait(left: Wait, right: Wait) -> bool
     ensures { IsTrue result ↔ (left ≡ right) }
 {
     left.lane == right.lane && same_why(left.why, right.why)
 }
 
+// Whether two lists have equal rows, in one order.
 fn same_waits(left: &[Wait], right: &[Wait]) -> bool
     ensures { IsTrue result ↔ (left.now ≡ right.now) }
 {
@@ -133,6 +136,7 @@ fn same_waits(left: &[Wait], right: &[Wait]) -> bool
     right.is_empty()
 }
 
+// Whether two explanations have equal rows and equal cycles.
 fn same(left: &Waits, right: &Waits) -> bool
     ensures { IsTrue result ↔ (left.now ≡ right.now) }
 {

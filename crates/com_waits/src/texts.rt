@@ -26,6 +26,7 @@ fn push_at_call(out: &mut ByteList, word: &[u8], call: u32, lane: u32) -> Result
     push_number(out, lane)
 }
 
+// Appends a reason: a message; or a body or the pool, with the call and the lane.
 fn push_why(out: &mut ByteList, why: Why) -> Result<(), Memory>
     ensures { OnOk result (out.new ≡ out.old ++ why_text why) }
 {
@@ -36,6 +37,7 @@ fn push_why(out: &mut ByteList, why: Why) -> Result<(), Memory>
     }
 }
 
+// Appends the line of a lane that waits.
 fn push_wait(out: &mut ByteList, wait: Wait) -> Result<(), Memory>
     ensures { OnOk result (out.new ≡ out.old ++ wait_line wait) }
 {
@@ -45,6 +47,7 @@ fn push_wait(out: &mut ByteList, wait: Wait) -> Result<(), Memory>
     out.push_all(b"\n")
 }
 
+// Appends a line for each lane that waits.
 fn push_waits(out: &mut ByteList, waits: &[Wait]) -> Result<(), Memory>
     ensures { OnOk result (out.new ≡ out.old ++ wait_lines waits.now) }
 {
@@ -56,6 +59,7 @@ fn push_waits(out: &mut ByteList, waits: &[Wait]) -> Result<(), Memory>
     Ok(())
 }
 
+// Appends the lanes of a cycle, with a space before each.
 fn push_lanes(out: &mut ByteList, lanes: &[u32]) -> Result<(), Memory>
     ensures { OnOk result (out.new ≡ out.old ++ lane_words lanes.now) }
 {
@@ -68,6 +72,7 @@ fn push_lanes(out: &mut ByteList, lanes: &[u32]) -> Result<(), Memory>
     Ok(())
 }
 
+// Appends the line of the cycle. It has `-` where there is no cycle.
 fn push_cycle(out: &mut ByteList, cycle: &[u32]) -> Result<(), Memory>
     ensures { OnOk result (out.new ≡ out.old ++ cycle_line cycle.now) }
 {
@@ -79,6 +84,7 @@ fn push_cycle(out: &mut ByteList, cycle: &[u32]) -> Result<(), Memory>
     out.push_all(b"\n")
 }
 
+// Appends the lines of the lanes that wait, and the line of the cycle.
 fn push_all(out: &mut ByteList, waits: &Waits) -> Result<(), Memory>
     ensures { OnOk result (out.new ≡ out.old ++ waits_text waits.now) }
 {

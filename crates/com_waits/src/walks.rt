@@ -27,6 +27,8 @@ enum Passed {
     On(usize),
 }
 
+// What a deed does in its own lane: it opens a pump, a call or a body, closes what is on top, or
+// leaves all as it is.
 fn change_by(deed: &Deed) -> Change
     ensures { result ≡ change_by (effect deed.now) }
 {
@@ -50,6 +52,7 @@ fn change_by(deed: &Deed) -> Change
     }
 }
 
+// What an entry does to what is open in a lane. An entry of another lane does nothing to it.
 fn change_of(entry: &Entry, lane: u32) -> Change
     ensures { result ≡ change_of lane entry.now }
 {
@@ -141,6 +144,7 @@ fn issues(entry: &Entry, wanted: u32) -> Option<u32>
     }
 }
 
+// The number, and 0 where there is none.
 fn number_or_zero(number: Option<u32>) -> u32
     ensures { result ≡ number_or_zero number }
 {

@@ -9,6 +9,7 @@ use Rattle.com_base.specs.declared.value.Kind.TheVariants as kind
 use Rattle.com_base.specs.declared.standard.StdFields.{StdFields}
 use Rattle.com_wire.specs.Fields.{number, guid, IsGuid}
 use Rattle.objref.specs.Grammar.{Strings, IsReference, standard, spelling}
+use Rattle.ndr_args.specs.declared.reading.TheConstants.{LIMIT}
 use Rattle.ndr_args.specs.declared.wire.Wire.{Wire}
 use Rattle.ndr_args.specs.declared.wire.Wire.TheVariants as wire
 
@@ -25,6 +26,7 @@ align_of kind.Bytes = 4
 align_of kind.Guid = 4
 align_of (kind.Ref i) = 4
 
+-- The padding: so many bytes, each of them 0.
 abbrev pub zeros : ℕ → List ℕ
 zeros count = replicate count 0
 
@@ -41,7 +43,7 @@ pub record IsRef (fields : StdFields) (text : List ℕ) : Type 0 where
   pub some : 0 < referent
   pub fits : referent < 2 ^ 32
   pub says : IsReference (standard fields flags strings)
-  pub short : length (spelling (standard fields flags strings)) ≤ 65536
+  pub short : length (spelling (standard fields flags strings)) ≤ LIMIT
   pub text_is : text ≡ number w32 referent
       ++ (number w32 (length (spelling (standard fields flags strings)))
       ++ (number w32 (length (spelling (standard fields flags strings)))
@@ -52,8 +54,8 @@ pub record IsRef (fields : StdFields) (text : List ℕ) : Type 0 where
 abbrev pub IsArg : Kind → Wire → List ℕ → Type 0
 IsArg kind.Int (wire.Int n) text = FitsSigned w64 n × (text ≡ number w64 (cast_unsigned w64 n))
 IsArg kind.Bool (wire.Bool b) text = text ≡ number w32 (if b then 1 else 0)
-IsArg kind.Text (wire.Text t) text = IsUtf8 t × (length t ≤ 65536) × (text ≡ counted t)
-IsArg kind.Bytes (wire.Bytes t) text = (length t ≤ 65536) × (text ≡ counted t)
+IsArg kind.Text (wire.Text t) text = IsUtf8 t × (length t ≤ LIMIT) × (text ≡ counted t)
+IsArg kind.Bytes (wire.Bytes t) text = (length t ≤ LIMIT) × (text ≡ counted t)
 IsArg kind.Guid (wire.Guid g) text = IsGuid g × (text ≡ guid g)
 IsArg (kind.Ref i) (wire.Ref None) text = text ≡ number w32 0
 IsArg (kind.Ref i) (wire.Ref (Some fields)) text = IsRef fields text

@@ -11,6 +11,8 @@ use Rattle.com_wire.specs.Steps.{◌>>=◌}
 use Rattle.objref.specs.declared.decoding.RefFault.{RefFault}
 use Rattle.objref.specs.Grammar.{Reference, standard, handler, custom}
 use Rattle.objref.specs.Reading.{objref_of}
+use Rattle.ndr_args.specs.declared.reading.TheConstants.{LIMIT}
+use Rattle.ndr_args.specs.declared.wire.TheConstants.ArgFault.{SHORT, PADDING, BOOL, TEXT, COUNT, TRAILING, REF}
 use Rattle.ndr_args.specs.declared.wire.Wire.{Wire}
 use Rattle.ndr_args.specs.declared.wire.Wire.TheVariants as wire
 use Rattle.ndr_args.specs.declared.wire.ArgFault.{ArgFault}
@@ -27,34 +29,36 @@ abbrev pub Gives : {X Y : Type 0} → (X → Y) → Result X ArgError → Result
 Gives view (Ok x) read = read ≡ Ok (view x)
 Gives view (Err e) read = Fails e read
 
+-- What a reading answers that fails: the number of the fault, and its position in the bytes.
 abbrev pub fault : ℕ → ℕ → ArgFault
 fault number at = record { number = number; at = at }
 
--- A field that is not whole is fault 1, at the length of the bytes.
+-- A field that is not whole is the fault SHORT, at the length of the bytes.
 abbrev pub short : List ℕ → ArgFault
-short bytes = fault 1 (length bytes)
+short bytes = fault SHORT (length bytes)
 
 -- A field, and the position behind it.
 abbrev pub field : {A : Type 0} → List ℕ → Option A → ℕ → Result (A × ℕ) ArgFault
 field bytes None end = Err (short bytes)
 field bytes (Some x) end = Ok (x, end)
 
+-- A number of 32 bits at a position, and the position behind it.
 abbrev pub u32_field : List ℕ → ℕ → Result (ℕ × ℕ) ArgFault
 u32_field bytes position = field bytes (number_at w32 bytes position) (position + 4)
 
--- So many bytes that must be 0. Another byte is fault 2, there.
+-- So many bytes that must be 0. Another byte is the fault PADDING, there.
 unfoldable pub zeros_at : List ℕ → ℕ → ℕ → Result ℕ ArgFault
 zeros_at bytes zero position = Ok position
 zeros_at bytes (suc count) position =
     if nat_lt position (length bytes) then
-    (if slice_index bytes position == 0 then zeros_at bytes count (position + 1) else Err (fault 2 position))
+    (if slice_index bytes position == 0 then zeros_at bytes count (position + 1) else Err (fault PADDING position))
     else Err (short bytes)
 
--- A count above 65,536 is fault 5, at the count.
+-- A count above the greatest that is taken is the fault COUNT, at the count.
 unfoldable pub count_at : List ℕ → ℕ → Result (ℕ × ℕ) ArgFault
 count_at bytes position = do
   count ← u32_field bytes position
-  if nat_lt 65536 count.0 then Err (fault 5 position) else Ok count
+  if nat_lt LIMIT count.0 then Err (fault COUNT position) else Ok count
 
 -- So many bytes.
 abbrev pub part_at : List ℕ → ℕ → ℕ → Result (List ℕ × ℕ) ArgFault
@@ -73,19 +77,19 @@ int_at bytes position = do
   n ← field bytes (number_at w64 bytes position) (position + 8)
   Ok (wire.Int (cast_signed w64 n.0), n.1)
 
--- A number that is neither 0 nor 1 is fault 3, at the number.
+-- A number that is neither 0 nor 1 is the fault BOOL, at the number.
 unfoldable pub bool_at : List ℕ → ℕ → Result (Wire × ℕ) ArgFault
 bool_at bytes position = do
   n ← u32_field bytes position
   if n.0 == 0 then Ok (wire.Bool false, n.1) else
       if n.0 == 1 then Ok (wire.Bool true, n.1) else
-      Err (fault 3 position)
+      Err (fault BOOL position)
 
--- Bytes that are not UTF-8 are fault 4, at their first.
+-- Bytes that are not UTF-8 are the fault TEXT, at their first.
 unfoldable pub text_at : List ℕ → ℕ → Result (Wire × ℕ) ArgFault
 text_at bytes position = do
   part ← counted_at bytes position
-  if is_utf8 part.0 then Ok (wire.Text part.0, part.1) else Err (fault 4 (position + 4))
+  if is_utf8 part.0 then Ok (wire.Text part.0, part.1) else Err (fault TEXT (position + 4))
 
 unfoldable pub bytes_at : List ℕ → ℕ → Result (Wire × ℕ) ArgFault
 bytes_at bytes position = do
@@ -105,17 +109,17 @@ std_fields (Ok (custom iid clsid extension unread payload)) = None
 std_fields (Err f) = None
 
 abbrev pub fields_at : Option StdFields → ℕ → Result StdFields ArgFault
-fields_at None position = Err (fault 7 position)
+fields_at None position = Err (fault REF position)
 fields_at (Some fields) position = Ok fields
 
 -- What stands behind a referent that is not 0: the maximum count, the length, the OBJREF and padding. Two
--- counts that differ are fault 5 at the second, bytes that are no standard OBJREF are fault 7 at the
--- first.
+-- counts that differ are the fault COUNT, at the second, and bytes that are no standard OBJREF are the fault
+-- REF, at the first of them.
 unfoldable pub held_at : List ℕ → ℕ → Result (StdFields × ℕ) ArgFault
 held_at bytes position = do
   maximum ← count_at bytes position
   count ← u32_field bytes maximum.1
-  part ← (if count.0 == maximum.0 then part_at bytes count.0 count.1 else Err (fault 5 maximum.1))
+  part ← (if count.0 == maximum.0 then part_at bytes count.0 count.1 else Err (fault COUNT maximum.1))
   fields ← fields_at (std_fields (objref_of part.0)) count.1
   end ← zeros_at bytes (gap part.1 4) part.1
   Ok (fields, end)
@@ -141,6 +145,7 @@ arg_at k bytes position = do
   start ← zeros_at bytes (gap position (align_of k)) position
   value_at k bytes start
 
+-- The values of these kinds from a position on, each behind its padding, and the position behind the last.
 unfoldable pub args_at : List Kind → List ℕ → ℕ → Result (List Wire × ℕ) ArgFault
 args_at [] bytes position = Ok ([], position)
 args_at (k ∷ ks) bytes position = do
@@ -148,8 +153,8 @@ args_at (k ∷ ks) bytes position = do
   others ← args_at ks bytes first.1
   Ok (first.0 ∷ others.0, others.1)
 
--- All of the bytes. Bytes behind the last value are fault 6, at the first of them.
+-- All of the bytes. Bytes behind the last value are the fault TRAILING, at the first of them.
 unfoldable pub args_of : List Kind → List ℕ → Result (List Wire) ArgFault
 args_of ks bytes = do
   all ← args_at ks bytes 0
-  if nat_lt all.1 (length bytes) then Err (fault 6 all.1) else Ok all.0
+  if nat_lt all.1 (length bytes) then Err (fault TRAILING all.1) else Ok all.0

@@ -7,6 +7,7 @@ use Rattle.com_base.specs.declared.value.Kind.{Kind}
 use Rattle.com_base.specs.declared.value.Kind.TheVariants as kind
 use Rattle.com_wire.specs.Fields.{number, guid, IsGuid}
 use Rattle.objref.specs.Grammar.{written_of, IsStdFields}
+use Rattle.ndr_args.specs.declared.reading.TheConstants.{LIMIT}
 use Rattle.ndr_args.specs.declared.wire.Wire.{Wire}
 use Rattle.ndr_args.specs.declared.wire.Wire.TheVariants as wire
 use Rattle.ndr_args.specs.Grammar.{gap, zeros, counted}
@@ -86,12 +87,12 @@ referent_after referent (v ∷ vs) = referent_after (next_referent referent v) v
 abbrev pub FitsReferents : List Wire → Type 0
 FitsReferents vs = referent_after 0x20000 vs < 2 ^ 32
 
--- Texts are UTF-8, and texts and bytes have at most 65,536 bytes.
+-- Texts are UTF-8, and texts and bytes have at most so many bytes as a count may say.
 abbrev pub CanSend : Wire → Type 0
 CanSend (wire.Int n) = Unit {0}
 CanSend (wire.Bool b) = Unit {0}
-CanSend (wire.Text t) = IsUtf8 t × (length t ≤ 65536)
-CanSend (wire.Bytes t) = length t ≤ 65536
+CanSend (wire.Text t) = IsUtf8 t × (length t ≤ LIMIT)
+CanSend (wire.Bytes t) = length t ≤ LIMIT
 CanSend (wire.Guid g) = Unit {0}
 CanSend (wire.Ref r) = Unit {0}
 

@@ -15,9 +15,10 @@ use objref::{ObjRef, decode};
 use std::alloc::Global;
 use std::str::from_utf8;
 
-// The greatest count that is taken.
-const LIMIT: u32 = 65_536;
+// The greatest count that is taken: the most bytes of a text, of a bytes value and of an OBJREF.
+pub(crate) const LIMIT: u32 = 65_536;
 
+// The error of a fault, by its number and its position in the bytes.
 fn fault(number: u8, at: usize) -> ArgError
     ensures { result ≡ ArgError.Fault (record { number = number; at = at }) }
 {
@@ -33,6 +34,7 @@ pub(crate) fn gap(position: usize, align: usize) -> usize
     (align - position % align) % align
 }
 
+// The number of 32 bits at a position, and the position behind it.
 fn u32_field(bytes: &[u8], position: usize) -> Result<(u32, usize), ArgError>
     ensures value { Gives (λ x. x) result (u32_field bytes.now position) }
     ensures within { IfOk result (λ x. (x.1 ≡ position + 4) × (x.1 ≤ length bytes.now)) }
@@ -61,6 +63,7 @@ fn zeros_at(bytes: &[u8], count: usize, position: usize) -> Result<usize, ArgErr
     Ok(position + count)
 }
 
+// The count at a position, if it is one that is taken, and the position behind it.
 #[tactic(auto, unfolding(crate::specs::Reading::count_at))]
 fn count_at(bytes: &[u8], position: usize) -> Result<(u32, usize), ArgError>
     ensures value { Gives (λ x. x) result (count_at bytes.now position) }
@@ -73,6 +76,7 @@ fn count_at(bytes: &[u8], position: usize) -> Result<(u32, usize), ArgError>
     Ok((count, end))
 }
 
+// So many bytes from a position on, and the position behind them.
 fn part_at(bytes: &[u8], count: u32, position: usize) -> Result<(&[u8], usize), ArgError>
     requires { position ≤ length bytes.now }
     ensures value { Gives (λ x. (x.0.now, x.1)) result (part_at bytes.now count position) }
@@ -86,6 +90,7 @@ fn part_at(bytes: &[u8], count: u32, position: usize) -> Result<(&[u8], usize), 
     Ok((&bytes[position..end], end))
 }
 
+// The bytes behind the count at a position, and the position behind them.
 #[tactic(auto, unfolding(crate::specs::Reading::counted_at))]
 fn counted_at(bytes: &[u8], position: usize) -> Result<(&[u8], usize), ArgError>
     ensures value { Gives (λ x. (x.0.now, x.1)) result (counted_at bytes.now position) }
@@ -96,6 +101,7 @@ fn counted_at(bytes: &[u8], position: usize) -> Result<(&[u8], usize), ArgError>
     part_at(bytes, count, start)
 }
 
+// The whole number of 64 bits, with its sign, at a position, and the position behind it.
 #[tactic(auto, unfolding(crate::specs::Reading::int_at))]
 fn int_at(bytes: &[u8], position: usize) -> Result<(Wire, usize), ArgError>
     ensures value { Gives (λ x. x) result (int_at bytes.now position) }
@@ -107,6 +113,7 @@ fn int_at(bytes: &[u8], position: usize) -> Result<(Wire, usize), ArgError>
     }
 }
 
+// The truth value at a position, as a number of 32 bits that is 0 or 1, and the position behind it.
 #[tactic(auto, unfolding(crate::specs::Reading::bool_at))]
 fn bool_at(bytes: &[u8], position: usize) -> Result<(Wire, usize), ArgError>
     ensures value { Gives (λ x. x) result (bool_at bytes.now position) }
@@ -120,12 +127,14 @@ fn bool_at(bytes: &[u8], position: usize) -> Result<(Wire, usize), ArgError>
     }
 }
 
+// Whether bytes are a text of UTF-8, all of them.
 fn is_utf8(bytes: &[u8]) -> bool
     ensures { result ≡ is_utf8 bytes.now }
 {
     from_utf8(bytes).is_ok()
 }
 
+// The text behind the count at a position, and the position behind it.
 #[tactic(auto, unfolding(crate::specs::Reading::text_at))]
 fn text_at(alloc: Global, bytes: &[u8], position: usize) -> Result<(Wire, usize), ArgError>
     ensures value { Gives (λ x. x) result (text_at bytes.now position) }
@@ -138,6 +147,7 @@ fn text_at(alloc: Global, bytes: &[u8], position: usize) -> Result<(Wire, usize)
     Ok((Wire::Text(ByteList::from_slice(alloc, text)?), end))
 }
 
+// The bytes value behind the count at a position, and the position behind it.
 #[tactic(auto, unfolding(crate::specs::Reading::bytes_at))]
 fn bytes_at(alloc: Global, bytes: &[u8], position: usize) -> Result<(Wire, usize), ArgError>
     ensures value { Gives (λ x. x) result (bytes_at bytes.now position) }
@@ -147,6 +157,7 @@ fn bytes_at(alloc: Global, bytes: &[u8], position: usize) -> Result<(Wire, usize
     Ok((Wire::Bytes(ByteList::from_slice(alloc, part)?), end))
 }
 
+// The GUID at a position, and the position behind it.
 #[tactic(auto, unfolding(crate::specs::Reading::guid_arg_at))]
 fn guid_arg_at(bytes: &[u8], position: usize) -> Result<(Wire, usize), ArgError>
     ensures value { Gives (λ x. x) result (guid_arg_at bytes.now position) }
@@ -168,6 +179,8 @@ fn standard_fields(bytes: &[u8]) -> Option<StdFields>
     }
 }
 
+// What stands behind a referent that is not 0: both counts, the OBJREF and its padding. It
+// gives the fields of the OBJREF, and the position behind the padding.
 #[tactic(auto, unfolding(crate::specs::Reading::held_at))]
 fn held_at(bytes: &[u8], position: usize) -> Result<(StdFields, usize), ArgError>
     ensures value { Gives (λ x. x) result (held_at bytes.now position) }
@@ -186,6 +199,7 @@ fn held_at(bytes: &[u8], position: usize) -> Result<(StdFields, usize), ArgError
     Ok((fields, end))
 }
 
+// The reference at a position, null where its referent is 0, and the position behind it.
 #[tactic(auto, unfolding(crate::specs::Reading::ref_at))]
 fn ref_at(bytes: &[u8], position: usize) -> Result<(Wire, usize), ArgError>
     ensures value { Gives (λ x. x) result (ref_at bytes.now position) }
@@ -199,6 +213,7 @@ fn ref_at(bytes: &[u8], position: usize) -> Result<(Wire, usize), ArgError>
     Ok((Wire::Ref(Some(fields)), end))
 }
 
+// Where a value of a kind may begin: at the multiples of this.
 fn align_of(kind: Kind) -> usize
     ensures value { result ≡ align_of kind }
     ensures some { 0 < result }
@@ -210,6 +225,7 @@ fn align_of(kind: Kind) -> usize
     }
 }
 
+// The value of a kind that stands behind its padding, and the position behind the value.
 #[tactic(auto, unfolding(crate::specs::Reading::arg_at))]
 fn arg_at(
     alloc: Global,
@@ -232,6 +248,7 @@ fn arg_at(
     }
 }
 
+// The values of these kinds from the first byte on, and the position behind the last.
 fn args_at(alloc: Global, kinds: &[Kind], bytes: &[u8]) -> Result<(Vec<Wire>, usize), ArgError>
     ensures { Gives (λ x. (x.0.items, x.1)) result (args_at kinds.now bytes.now 0) }
 {
@@ -245,6 +262,7 @@ fn args_at(alloc: Global, kinds: &[Kind], bytes: &[u8]) -> Result<(Vec<Wire>, us
     Ok((values, position))
 }
 
+// The values of these kinds, where nothing stands behind the last.
 #[tactic(auto, unfolding(crate::specs::Reading::args_of))]
 fn all(alloc: Global, kinds: &[Kind], bytes: &[u8]) -> Result<Vec<Wire>, ArgError>
     ensures { Gives (λ v. v.items) result (args_of kinds.now bytes.now) }

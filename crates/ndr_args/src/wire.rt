@@ -38,19 +38,26 @@ pub struct ArgFault {
 }
 
 impl ArgFault {
-    pub(crate) const SHORT: u8 = 1;
+    /// A field, or the bytes that a count tells, are not whole.
+    pub const SHORT: u8 = 1;
 
-    pub(crate) const PADDING: u8 = 2;
+    /// A byte of padding is not 0.
+    pub const PADDING: u8 = 2;
 
-    pub(crate) const BOOL: u8 = 3;
+    /// A truth value is another number than 0 and 1.
+    pub const BOOL: u8 = 3;
 
-    pub(crate) const TEXT: u8 = 4;
+    /// A text is not UTF-8.
+    pub const TEXT: u8 = 4;
 
-    pub(crate) const COUNT: u8 = 5;
+    /// A count is greater than any that is taken, or the two counts of a reference differ.
+    pub const COUNT: u8 = 5;
 
-    pub(crate) const TRAILING: u8 = 6;
+    /// Bytes are left behind the last value.
+    pub const TRAILING: u8 = 6;
 
-    pub(crate) const REF: u8 = 7;
+    /// The bytes of a reference are no OBJREF by standard marshalling.
+    pub const REF: u8 = 7;
 }
 
 /// Why no arguments were read.

@@ -4,6 +4,7 @@ ghost use Rattle.std.specs.Int.{w32};
 ghost use Rattle.std.specs.List.{AllByRecursion};
 ghost use Rattle.com_wire.specs.Fields.{number};
 ghost use Rattle.objref.specs.Grammar.{written_of};
+ghost use Rattle.ndr_args.specs.declared.reading.TheConstants.{LIMIT};
 ghost use Rattle.ndr_args.specs.Grammar.{gap, zeros, counted};
 ghost use Rattle.ndr_args.specs.Written.{align_of_value, written_arg, next_referent, written_args, CanSend};
 ghost use Rattle.ndr_args.specs.Written.{CanSendAll, length_of, padded_length, length_args, referent_after};
@@ -19,6 +20,7 @@ use std::alloc::AllocError;
 // The referent of a stream's first reference that is not null. They count up by the size of a pointer.
 const FIRST_REFERENT: u32 = 0x0002_0000;
 
+// How far a referent is from the one before it.
 const STEP: u32 = 4;
 
 // How many bytes the OBJREF of a reference has.
@@ -40,7 +42,7 @@ fn put_zeros(count: usize, out: &mut Reserved)
 // Appends bytes behind their count.
 #[tactic(auto, unfolding(com_wire::specs::Fields::number))]
 fn put_counted(bytes: &[u8], out: &mut Reserved)
-    requires short { length bytes.now ≤ 65536 }
+    requires short { length bytes.now ≤ LIMIT }
     requires room { 4 + length bytes.now ≤ out.old.spare }
     ensures items { out.new.items ≡ out.old.items ++ counted bytes.now }
     ensures spare { out.old.spare ≤ out.new.spare + (4 + length bytes.now) }
@@ -72,6 +74,7 @@ fn put_ref(fields: &StdFields, referent: u32, out: &mut Reserved)
     encode_reserved(fields, out);
 }
 
+// Where a value may begin: at the multiples of this.
 fn align_of_value(value: &Wire) -> usize
     ensures value { result ≡ align_of_value value.now }
     ensures some { 0 < result }
@@ -87,7 +90,7 @@ fn align_of_value(value: &Wire) -> usize
 fn length_of(value: &Wire) -> usize
     requires { CanSend value.now }
     ensures value { result ≡ length_of value.now }
-    ensures few { result ≤ 65540 }
+    ensures few { result ≤ LIMIT + 4 }
 {
     match value {
         Wire::Int(_) => 8,

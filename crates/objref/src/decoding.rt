@@ -52,24 +52,32 @@ pub struct RefFault {
 }
 
 impl RefFault {
-    const SHORT: u8 = 1;
+    // A field is not whole.
+    pub(crate) const SHORT: u8 = 1;
 
-    const SIGNATURE: u8 = 2;
+    // Another signature than "MEOW".
+    pub(crate) const SIGNATURE: u8 = 2;
 
-    const FLAGS: u8 = 3;
+    // Flags of none of the three cases.
+    pub(crate) const FLAGS: u8 = 3;
 
-    const OFFSET: u8 = 4;
+    // The security bindings begin behind the end of the values.
+    pub(crate) const OFFSET: u8 = 4;
 
-    const TRAILING: u8 = 5;
+    // Bytes stand behind a standard or a handler body.
+    pub(crate) const TRAILING: u8 = 5;
 }
 
 // "MEOW" in the order of the bytes.
 pub(crate) const SIGNATURE: u32 = 0x574f_454d;
 
+// The flags of an OBJREF by standard marshalling.
 pub(crate) const STANDARD: u32 = 1;
 
+// The flags of an OBJREF by standard marshalling with a handler.
 const HANDLER: u32 = 2;
 
+// The flags of an OBJREF by custom marshalling.
 const CUSTOM: u32 = 4;
 
 // The value of a field that is whole, or the fault that the bytes end in it.
@@ -85,6 +93,7 @@ fn whole<T: Drop>(bytes: &[u8], field: Option<T>) -> Result<T, RefFault>
     }
 }
 
+// The fields of a reference with this IID and the flags, from the STDOBJREF at position 24.
 #[tactic(auto, unfolding(crate::specs::Reading::standard_at))]
 fn standard_at(bytes: &[u8], iid: Guid) -> Result<(StdFields, u32), RefFault>
     ensures { result ≡ standard_at bytes.now iid }
@@ -111,6 +120,7 @@ struct Strings<'a> {
     values: &'a [u8],
 }
 
+// The DUALSTRINGARRAY from a position to the end of the bytes.
 #[tactic(auto, unfolding(crate::specs::Reading::strings_at))]
 fn strings_at(bytes: &[u8], position: usize) -> Result<Strings<'_>, RefFault>
     requires { position ≤ 80 }
@@ -144,6 +154,7 @@ fn strings_at(bytes: &[u8], position: usize) -> Result<Strings<'_>, RefFault>
     })
 }
 
+// What an OBJREF by standard marshalling says, whose signature and flags were read.
 #[tactic(auto, unfolding(crate::specs::Reading::standard_ref))]
 fn standard(bytes: &[u8]) -> Result<ObjRef<'_>, RefFault>
     ensures { Gives reference_of result (standard_ref bytes.now) }
@@ -164,6 +175,7 @@ fn standard(bytes: &[u8]) -> Result<ObjRef<'_>, RefFault>
     })
 }
 
+// What an OBJREF with a handler says, whose signature and flags were read.
 #[tactic(auto, unfolding(crate::specs::Reading::handler_ref))]
 fn handler(bytes: &[u8]) -> Result<ObjRef<'_>, RefFault>
     ensures { Gives reference_of result (handler_ref bytes.now) }
@@ -186,6 +198,7 @@ fn handler(bytes: &[u8]) -> Result<ObjRef<'_>, RefFault>
     })
 }
 
+// What an OBJREF by custom marshalling says, whose signature and flags were read.
 #[tactic(auto, unfolding(crate::specs::Reading::custom_ref))]
 fn custom(bytes: &[u8]) -> Result<ObjRef<'_>, RefFault>
     ensures { Gives reference_of result (custom_ref bytes.now) }
@@ -204,6 +217,7 @@ fn custom(bytes: &[u8]) -> Result<ObjRef<'_>, RefFault>
     })
 }
 
+// What an OBJREF of any of the three cases says, or the first fault from the front.
 #[tactic(auto, unfolding(crate::specs::Reading::objref_of))]
 fn any(bytes: &[u8]) -> Result<ObjRef<'_>, RefFault>
     ensures { Gives reference_of result (objref_of bytes.now) }

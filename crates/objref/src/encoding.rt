@@ -16,6 +16,7 @@ const NO_FLAGS: u32 = 0;
 // security bindings.
 const ENTRIES: u16 = 2;
 
+// Where the security bindings begin among the two values.
 const SECURITY: u16 = 1;
 
 // The bytes of a standard reference without flags.

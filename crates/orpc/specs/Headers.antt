@@ -6,6 +6,7 @@ use Rattle.com_base.specs.declared.guid.Guid.{Guid}
 use Rattle.com_wire.specs.Fields.{number, guid, IsGuid, number_at, guid_at}
 use Rattle.com_wire.specs.Steps.{◌>>=◌}
 use Rattle.orpc.specs.declared.OrpcFault.{OrpcFault}
+use Rattle.orpc.specs.declared.TheConstants.OrpcFault.{SHORT, VERSION, EXTENSION}
 
 -- ---- ORPCTHIS
 
@@ -45,13 +46,14 @@ that_text flags = number w32 flags ++ number w32 0
 abbrev pub fault : ℕ → ℕ → OrpcFault
 fault number at = record { number = number; at = at }
 
--- A field that is not whole is fault 1, at the length of the bytes.
+-- A field that is not whole is the fault SHORT, at the length of the bytes.
 abbrev pub whole : {A : Type 0} → List ℕ → Option A → Result A OrpcFault
-whole bytes None = Err (fault 1 (length bytes))
+whole bytes None = Err (fault SHORT (length bytes))
 whole bytes (Some x) = Ok x
 
--- The causality of a request's header. Another major version than 5 is fault 2 at position 0, extensions
--- are fault 3 at their pointer, at position 28. Nobody looks at what stands behind the header.
+-- The causality of a request's header. Another major version than 5 is the fault VERSION, at position 0,
+-- extensions are the fault EXTENSION, at their pointer, which is at position 28. Nobody looks at what stands
+-- behind the header.
 unfoldable pub request_of : List ℕ → Result Guid OrpcFault
 request_of bytes = do
   major ← whole bytes (number_at w16 bytes 0)
@@ -61,12 +63,12 @@ request_of bytes = do
     reserved ← whole bytes (number_at w32 bytes 8)
     cause ← whole bytes (guid_at bytes 12)
     extensions ← whole bytes (number_at w32 bytes 28)
-    if extensions == 0 then Ok cause else Err (fault 3 28))
-      else Err (fault 2 0)
+    if extensions == 0 then Ok cause else Err (fault EXTENSION 28))
+      else Err (fault VERSION 0)
 
--- Whether a reply's header stands there. Extensions are fault 3 at their pointer, at position 4.
+-- Whether a reply's header stands there. Extensions are the fault EXTENSION, at their pointer, at position 4.
 unfoldable pub reply_of : List ℕ → Result (Unit {0}) OrpcFault
 reply_of bytes = do
   flags ← whole bytes (number_at w32 bytes 0)
   extensions ← whole bytes (number_at w32 bytes 4)
-  if extensions == 0 then Ok tt else Err (fault 3 4)
+  if extensions == 0 then Ok tt else Err (fault EXTENSION 4)

@@ -22,20 +22,26 @@ pub struct OrpcFault {
 }
 
 impl OrpcFault {
-    const SHORT: u8 = 1;
+    // A field is not whole.
+    pub(crate) const SHORT: u8 = 1;
 
-    const VERSION: u8 = 2;
+    // Another major version than 5.
+    pub(crate) const VERSION: u8 = 2;
 
-    const EXTENSION: u8 = 3;
+    // There are extensions.
+    pub(crate) const EXTENSION: u8 = 3;
 }
 
-// COM's version on the wire.
+// The major number of COM's version on the wire, which a reader insists on.
 const MAJOR: u16 = 5;
 
+// The minor number of the version that the writer says. A reader takes any.
 const MINOR: u16 = 7;
 
+// How many bytes the header of a request has.
 const REQUEST: usize = 32;
 
+// How many bytes the header of a reply has.
 const REPLY: usize = 8;
 
 // The bytes of a request's header.
@@ -105,6 +111,7 @@ fn whole<T: Drop>(bytes: &[u8], field: Option<T>) -> Result<T, OrpcFault>
     }
 }
 
+// The causality that a request's header says, or the first fault from the front.
 #[tactic(auto, unfolding(crate::specs::Headers::request_of))]
 fn cause_of(bytes: &[u8]) -> Result<Guid, OrpcFault>
     ensures { result ≡ request_of bytes.now }
@@ -144,6 +151,7 @@ pub fn read_request(bytes: &[u8]) -> Result<Guid, OrpcFault>
     cause_of(bytes)
 }
 
+// Whether the header of a reply stands in front, or the first fault from the front.
 #[tactic(auto, unfolding(crate::specs::Headers::reply_of))]
 fn that_at(bytes: &[u8]) -> Result<(), OrpcFault>
     ensures { result ≡ reply_of bytes.now }

@@ -12,6 +12,7 @@ use com_body::{Arg, Destination, Op, Stmt};
 use com_classes::Interface;
 use std::alloc::{AllocError, Global};
 
+// What an `invoke` wants its result in: a register or a slot. None where it wants no result.
 fn sort_of(destination: Destination) -> Option<Sort>
     ensures { result ≡ sort_of destination }
 {
@@ -51,6 +52,7 @@ pub fn outcome(
     }
 }
 
+// An argument that was coerced, as the statement has it. The only error is want of memory.
 fn argument(arg: &DispArg) -> Result<Arg, Memory>
     requires { IsDispArg arg.now }
     ensures value { IfOk result (λ a. a ≡ argument_of arg.now) }
@@ -63,6 +65,7 @@ fn argument(arg: &DispArg) -> Result<Arg, Memory>
     }
 }
 
+// The arguments that were coerced, as the statement has them. The only error is want of memory.
 fn arguments(alloc: Global, args: &[DispArg]) -> Result<Rows<Arg>, Memory>
     requires { All IsDispArg args.now }
     ensures value { IfOk result (λ r. r ≡ map argument_of args.now) }

@@ -61,6 +61,7 @@ pub(crate) fn source_text(alloc: Global, seen: Seen, line: &[Word]) -> Result<By
     Ok(text)
 }
 
+// The lines that declare `IPoint` for the first source line, and nothing for a later one.
 fn interface_text(alloc: Global, seen: Seen) -> Result<ByteList, Memory>
     ensures { IfOk result (λ text. text ≡ interface_text seen) }
 {

@@ -17,10 +17,10 @@ use crate::sources::shapes::{
 use com_base::HResult;
 use com_body::{Place, Stmt};
 
-const E_POINTER: HResult = HResult(0x8000_4003);
-
+// The answer of `unadvise` where no sink has the cookie.
 const CONNECT_E_NOCONNECTION: HResult = HResult(0x8004_0200);
 
+// The answer of `advise` where the source has four sinks already.
 const CONNECT_E_ADVISELIMIT: HResult = HResult(0x8004_0201);
 
 // What stands behind the first statements of `advise`: null is refused, and the new cookie is one more than
@@ -33,7 +33,7 @@ fn behind_advise_head(body: &[Stmt]) -> Option<&[Stmt]>
         [same, test, null, load, add, rest @ ..] => {
             if is_same(same, 1, 0, 7)
                 && is_skip_zero(test, 1, 1)
-                && is_leave(null, E_POINTER)
+                && is_leave(null, HResult::E_POINTER)
                 && is_load(load, 2, 4)
                 && is_add_one(add, 2)
             {
@@ -88,6 +88,8 @@ fn behind_leave(body: &[Stmt], answer: HResult) -> Option<&[Stmt]>
     }
 }
 
+// What stands behind the statements of `advise`: its head, the four places, and the refusal
+// of a fifth sink.
 fn behind_advise(body: &[Stmt]) -> Option<&[Stmt]>
     ensures some { IfSome result (λ rest. body.now
         ≡ advise_head ++ (take_place 0 ++ (take_place 1 ++ (take_place 2
@@ -188,6 +190,8 @@ fn behind_move_down(body: &[Stmt], i: u8) -> Option<&[Stmt]>
     }
 }
 
+// What stands behind the first part of `unadvise`: its head, the search for the cookie in the
+// four places, and the refusal where none has it.
 fn behind_looks(body: &[Stmt]) -> Option<&[Stmt]>
     ensures some { IfSome result (λ rest. body.now ≡ unadvise_head ++ (look_in 0 ++ (look_in 1 ++ (look_in 2
         ++ (look_in 3 ++ (leave_with no_connection given_of.Nothing ∷ rest.now)))))) }
@@ -203,6 +207,7 @@ fn behind_looks(body: &[Stmt]) -> Option<&[Stmt]>
     behind_leave(rest, CONNECT_E_NOCONNECTION)
 }
 
+// What stands behind the statements that move the three higher sinks one place down each.
 fn behind_moves(body: &[Stmt]) -> Option<&[Stmt]>
     ensures some { IfSome result (λ rest. body.now
         ≡ move_down 0 ++ (move_down 1 ++ (move_down 2 ++ rest.now))) }
@@ -214,6 +219,8 @@ fn behind_moves(body: &[Stmt]) -> Option<&[Stmt]>
     behind_move_down(rest, 2)
 }
 
+// Whether these are the last statements of `unadvise`: the fourth place is made free, and the
+// body leaves with S_OK.
 fn is_unadvise_end(body: &[Stmt]) -> bool
     ensures { IsTrue result ↔ body.now
         ≡ stmt.Store 3 (int 0) ∷ stmt.Release (place.Link 3) ∷ leave_with ok given_of.Nothing ∷ [] }
@@ -319,6 +326,7 @@ fn behind_fire_head(body: &[Stmt]) -> Option<&[Stmt]>
     }
 }
 
+// What stands behind the head of `fire` and its four rounds.
 fn behind_rounds(body: &[Stmt]) -> Option<&[Stmt]>
     ensures some { IfSome result (λ rest. body.now ≡ fire_head ++ (event_round ++ (event_round ++ (event_round
         ++ (event_round ++ rest.now))))) }
@@ -343,6 +351,7 @@ pub(crate) fn is_fire(body: &[Stmt]) -> bool
     }
 }
 
+// Whether what is left of `fire` is to leave with the number of events.
 fn is_fire_end(body: &[Stmt]) -> bool
     ensures { IsTrue result ↔ body.now ≡ leave_register 6 ∷ [] }
 {

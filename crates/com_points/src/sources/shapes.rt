@@ -9,6 +9,7 @@ ghost use Rattle.com_laws_sources.specs.Bodies.{int, register, leave_with, leave
 use com_base::{HResult, Value};
 use com_body::{Arg, Code, Destination, Given, Op, Place, Stmt};
 
+// Whether an operand is the register with this number.
 fn is_register(op: &Op, number: u8) -> bool
     ensures { IsTrue result ↔ (op.now ≡ register number) }
 {
@@ -18,6 +19,7 @@ fn is_register(op: &Op, number: u8) -> bool
     }
 }
 
+// Whether an operand is this whole number.
 fn is_number(op: &Op, number: u32) -> bool
     ensures { IsTrue result ↔ (op.now ≡ int number) }
 {
@@ -27,6 +29,7 @@ fn is_number(op: &Op, number: u32) -> bool
     }
 }
 
+// Whether a statement copies register `from` to register `to`.
 pub(crate) fn is_set(statement: &Stmt, to: u8, from: u8) -> bool
     ensures { IsTrue result ↔ (statement.now ≡ stmt.Set to (register from)) }
 {
@@ -36,6 +39,7 @@ pub(crate) fn is_set(statement: &Stmt, to: u8, from: u8) -> bool
     }
 }
 
+// Whether a statement puts 0 in register `to`.
 pub(crate) fn is_set_zero(statement: &Stmt, to: u8) -> bool
     ensures { IsTrue result ↔ (statement.now ≡ stmt.Set to (int 0)) }
 {
@@ -45,6 +49,7 @@ pub(crate) fn is_set_zero(statement: &Stmt, to: u8) -> bool
     }
 }
 
+// Whether a statement adds 1 to register `to`.
 pub(crate) fn is_add_one(statement: &Stmt, to: u8) -> bool
     ensures { IsTrue result ↔ (statement.now ≡ stmt.Add to (int 1)) }
 {
@@ -54,6 +59,7 @@ pub(crate) fn is_add_one(statement: &Stmt, to: u8) -> bool
     }
 }
 
+// Whether a statement subtracts register `from` from register `to`.
 pub(crate) fn is_sub(statement: &Stmt, to: u8, from: u8) -> bool
     ensures { IsTrue result ↔ (statement.now ≡ stmt.Sub to (register from)) }
 {
@@ -63,6 +69,7 @@ pub(crate) fn is_sub(statement: &Stmt, to: u8, from: u8) -> bool
     }
 }
 
+// Whether a statement puts in register `to` whether register `right` is above 0.
 pub(crate) fn is_positive_test(statement: &Stmt, to: u8, right: u8) -> bool
     ensures { IsTrue result ↔ (statement.now ≡ stmt.Less to (int 0) (register right)) }
 {
@@ -76,6 +83,7 @@ pub(crate) fn is_positive_test(statement: &Stmt, to: u8, right: u8) -> bool
     }
 }
 
+// Whether a statement puts in register `to` whether register `left` is below register `right`.
 pub(crate) fn is_less(statement: &Stmt, to: u8, left: u8, right: u8) -> bool
     ensures { IsTrue result ↔ (statement.now ≡ stmt.Less to (register left) (register right)) }
 {
@@ -89,6 +97,8 @@ pub(crate) fn is_less(statement: &Stmt, to: u8, left: u8, right: u8) -> bool
     }
 }
 
+// Whether a statement puts in register `to` whether slots `left` and `right` name one object, or
+// are both null.
 pub(crate) fn is_same(statement: &Stmt, to: u8, left: u8, right: u8) -> bool
     ensures { IsTrue result ↔ (statement.now ≡ stmt.Same to left right) }
 {
@@ -102,6 +112,7 @@ pub(crate) fn is_same(statement: &Stmt, to: u8, left: u8, right: u8) -> bool
     }
 }
 
+// Whether a statement puts a cell's number in register `to`.
 pub(crate) fn is_load(statement: &Stmt, to: u8, cell: u8) -> bool
     ensures { IsTrue result ↔ (statement.now ≡ stmt.Load to cell) }
 {
@@ -111,6 +122,7 @@ pub(crate) fn is_load(statement: &Stmt, to: u8, cell: u8) -> bool
     }
 }
 
+// Whether a statement puts the number of register `from` in a cell.
 pub(crate) fn is_store(statement: &Stmt, cell: u8, from: u8) -> bool
     ensures { IsTrue result ↔ (statement.now ≡ stmt.Store cell (register from)) }
 {
@@ -120,6 +132,7 @@ pub(crate) fn is_store(statement: &Stmt, cell: u8, from: u8) -> bool
     }
 }
 
+// Whether a statement puts 0 in a cell.
 pub(crate) fn is_store_zero(statement: &Stmt, cell: u8) -> bool
     ensures { IsTrue result ↔ (statement.now ≡ stmt.Store cell (int 0)) }
 {
@@ -129,6 +142,7 @@ pub(crate) fn is_store_zero(statement: &Stmt, cell: u8) -> bool
     }
 }
 
+// Whether a statement passes over exactly `count` statements, whatever the registers hold.
 pub(crate) fn is_skip(statement: &Stmt, count: u32) -> bool
     ensures { IsTrue result ↔ (statement.now ≡ stmt.Skip count) }
 {
@@ -138,6 +152,7 @@ pub(crate) fn is_skip(statement: &Stmt, count: u32) -> bool
     }
 }
 
+// Whether a statement passes over `count` statements where this register is 0.
 pub(crate) fn is_skip_zero(statement: &Stmt, register: u8, count: u32) -> bool
     ensures { IsTrue result ↔ (statement.now ≡ stmt.SkipZero register count) }
 {
@@ -150,6 +165,7 @@ pub(crate) fn is_skip_zero(statement: &Stmt, register: u8, count: u32) -> bool
     }
 }
 
+// Whether a statement puts the reference at place `from` also at place `to`.
 pub(crate) fn is_copy(statement: &Stmt, to: Place, from: Place) -> bool
     ensures { IsTrue result ↔ (statement.now ≡ stmt.Copy to from) }
 {
@@ -159,6 +175,7 @@ pub(crate) fn is_copy(statement: &Stmt, to: Place, from: Place) -> bool
     }
 }
 
+// Whether a statement gives up the reference at this place.
 pub(crate) fn is_release(statement: &Stmt, place: Place) -> bool
     ensures { IsTrue result ↔ (statement.now ≡ stmt.Release place) }
 {
@@ -168,6 +185,7 @@ pub(crate) fn is_release(statement: &Stmt, place: Place) -> bool
     }
 }
 
+// Whether a statement ends the body with this HRESULT and no result.
 pub(crate) fn is_leave(statement: &Stmt, answer: HResult) -> bool
     ensures { IsTrue result ↔ (statement.now ≡ leave_with answer given_of.Nothing) }
 {
@@ -180,6 +198,7 @@ pub(crate) fn is_leave(statement: &Stmt, answer: HResult) -> bool
     }
 }
 
+// Whether a statement ends the body with S_OK and this register as its result.
 pub(crate) fn is_leave_register(statement: &Stmt, number: u8) -> bool
     ensures { IsTrue result ↔ (statement.now ≡ leave_register number) }
 {
@@ -192,6 +211,7 @@ pub(crate) fn is_leave_register(statement: &Stmt, number: u8) -> bool
     }
 }
 
+// Whether a call has one argument, the value of this register.
 fn is_one_register(args: &[Arg], number: u8) -> bool
     ensures { IsTrue result ↔ (args.now ≡ arg.Op (register number) ∷ []) }
 {

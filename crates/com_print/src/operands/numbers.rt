@@ -31,6 +31,7 @@ pub fn push_signed(out: &mut ByteList, number: i64) -> Result<(), Memory>
     push_word(out, digits.format(number).as_bytes())
 }
 
+// Appends a letter and a number in decimal digits, behind a space.
 fn push_lettered(out: &mut ByteList, letter: u8, number: u8) -> Result<(), Memory>
     ensures { OnOk result (out.new ≡ out.old ++ more_text (plain (letter ∷ decimal number) ∷ [])) }
 {

@@ -11,9 +11,10 @@ ghost use Rattle.com_print.specs.Ranges.{AreBytes, FitsValue, IsGuid};
 use crate::operands::numbers::{push_signed, push_word};
 use com_base::{ByteList, Guid, HResult, Memory, Value};
 
-// Bytes are turned into digits in pieces of this many bytes, which take so many digits.
+// Bytes are turned into digits in pieces of this many bytes.
 const PIECE: usize = 64;
 
+// A piece takes this many digits, two for each byte.
 const DIGITS: usize = 128;
 
 // Appends at most 64 bytes in lower-case hexadecimal digits, with no space before them.
@@ -29,6 +30,7 @@ fn push_piece(out: &mut ByteList, piece: &[u8]) -> Result<(), Memory>
     }
 }
 
+// Appends bytes in lower-case hexadecimal digits, with no space before them, piece by piece.
 #[tactic(auto, using(crate::proofs::Pieces::digits_in_two, crate::proofs::Pieces::digits_of_none))]
 fn push_digits(out: &mut ByteList, bytes: &[u8]) -> Result<(), Memory>
     ensures { OnOk result (out.new ≡ out.old ++ encode_lower bytes.now) }
@@ -51,6 +53,7 @@ pub fn push_hex(out: &mut ByteList, bytes: &[u8]) -> Result<(), Memory>
     push_digits(out, bytes)
 }
 
+// Appends a text literal behind a space: its bytes in quotation marks.
 fn push_text(out: &mut ByteList, text: &[u8]) -> Result<(), Memory>
     ensures { OnOk result (out.new ≡ out.old ++ more_text (text_word text.now ∷ [])) }
 {
@@ -59,6 +62,7 @@ fn push_text(out: &mut ByteList, text: &[u8]) -> Result<(), Memory>
     out.push(b'"')
 }
 
+// Appends a bytes literal behind a space: an `x`, and its digits in quotation marks.
 fn push_bytes(out: &mut ByteList, bytes: &[u8]) -> Result<(), Memory>
     ensures ok { OnOk result (out.new ≡ out.old ++ more_text (bytes_word (encode_lower bytes.now) ∷ [])) }
     ensures fits { AreBytes bytes.now }

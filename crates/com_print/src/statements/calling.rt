@@ -15,6 +15,7 @@ use com_classes::Interface;
 use com_read_statements::Names;
 use itoa::Buffer;
 
+// Appends the arguments of a call, each behind a space.
 #[tactic(auto, using(crate::proofs::StatementPieces::args_in_two, crate::proofs::StatementPieces::fits_more))]
 fn push_args(out: &mut ByteList, args: &[Arg]) -> Result<(), Memory>
     ensures ok { OnOk result (out.new ≡ out.old ++ more_text (map arg_word args.now)) }
@@ -41,6 +42,7 @@ pub fn method_name(tables: &[Interface], iface: u16, method: u16) -> &[u8]
     }
 }
 
+// Appends a method by its number: a dot, a `#` and the number in decimal digits.
 fn push_numbered(out: &mut ByteList, method: u16) -> Result<(), Memory>
     ensures { OnOk result (out.new ≡ out.old ++ 46 ∷ 35 ∷ decimal method) }
 {
@@ -49,6 +51,7 @@ fn push_numbered(out: &mut ByteList, method: u16) -> Result<(), Memory>
     out.push_all(digits.format(method).as_bytes())
 }
 
+// Appends a method by its name: a dot and the name.
 fn push_named(out: &mut ByteList, name: &[u8]) -> Result<(), Memory>
     ensures { OnOk result (out.new ≡ out.old ++ 46 ∷ name.now) }
 {

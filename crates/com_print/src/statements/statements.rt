@@ -31,6 +31,7 @@ pub fn write_statement(names: &Names, statement: &Stmt, out: &mut ByteList) -> R
     push_end(out)
 }
 
+// Appends the words of a statement with single spaces between them, and no end of the line.
 fn write_words(out: &mut ByteList, names: &Names, statement: &Stmt) -> Result<(), Memory>
     ensures ok { OnOk result (out.new ≡ out.old ++ words_text (statement_words names.now statement.now)) }
     ensures fits { OnOk result (Fits statement.now) }
@@ -92,6 +93,7 @@ fn write_words(out: &mut ByteList, names: &Names, statement: &Stmt) -> Result<()
     }
 }
 
+// Appends the words of an `init`: the keyword and the mode.
 fn init(out: &mut ByteList, mode: Mode) -> Result<(), Memory>
     ensures { OnOk result (out.new ≡ out.old ++ words_text (plain (codes "init") ∷ mode_word mode ∷ [])) }
 {
