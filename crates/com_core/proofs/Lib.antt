@@ -7,12 +7,14 @@ pub mod Bringing
 pub mod Fits
 pub mod Booked
 pub mod Acting
+pub mod Travelling
 pub mod Roomy
 pub mod Entries
 pub mod Readings
 pub mod Moved
 pub mod Ticking
 pub mod Turned
+pub mod ByRules
 pub mod Tied
 pub mod Booking
 pub mod Shown

@@ -3,7 +3,7 @@
 ghost use Rattle.std.specs.Prelude.{◌≡◌, is_some};
 ghost use Rattle.com_refs_books.specs.Changes.{Books};
 ghost use Rattle.com_model.specs.Openers.{is_body};
-ghost use Rattle.com_model.specs.Rules.{enters_itself, ruled, top};
+ghost use Rattle.com_model.specs.Rules.{ruled, top};
 ghost use Rattle.com_model.specs.Tables.{lane_sort};
 ghost use Rattle.com_view.specs.Nexts.{has_come, has_moved, has_posted, idle_has, kind_of, pump_has, stirs, wait_has};
 ghost use Rattle.com_view.specs.Seen.{bare, sight_by};
@@ -36,19 +36,6 @@ impl<'a> View<'a> {
             Some(Opener::Enters { .. }) => true,
             _ => false,
         }
-    }
-
-    /// Whether a call is direct or switched, and neither entered nor answered.
-    pub fn enters_itself(&self, call: u32) -> bool
-        ensures { result ≡ enters_itself (bare self.now) call }
-    {
-        if self.is_posted(call) {
-            return false;
-        }
-        if self.calls.admission(call).is_some() {
-            return false;
-        }
-        !self.is_answered(call)
     }
 
     /// Whether a call's answer is fixed.
@@ -107,7 +94,7 @@ impl<'a> View<'a> {
     }
 
     // Whether a call was judged, so that its caller's filter is asked, or waits for a time that has come.
-    fn has_moved(&self, call: u32) -> bool
+    pub(crate) fn has_moved(&self, call: u32) -> bool
         ensures { result ≡ has_moved (bare self.now) ((bare self.now).phase call) }
     {
         match self.calls.phase(call) {
@@ -149,6 +136,7 @@ impl<'a> View<'a> {
     }
 
     // Whether a rule gives an entry to a lane, where no Final comes first, by what is innermost in it.
+    #[inline(always)]
     fn stirs(&self, lane: u32) -> bool
         ensures { result ≡ stirs (bare self.now) (lane_sort self.now.scenario lane) lane
             (top (bare self.now) lane) }
@@ -161,7 +149,9 @@ impl<'a> View<'a> {
         }
     }
 
-    /// Whether one of the rules gives the lane an entry. What is innermost in a lane says which of them can.
+    /// Whether one of the rules gives the lane an entry. What is innermost in a lane says which of them can. It is
+    /// asked of each lane that waits.
+    #[inline(always)]
     #[tactic(auto, using(crate::proofs::ByTop::ruled_final, crate::proofs::ByTop::ruled_stirs))]
     pub fn has_entry(&self, lane: u32) -> bool
         ensures { (b : Books) → result ≡ is_some (ruled self.now.scenario (sight_by self.now b) lane) }
