@@ -11,7 +11,7 @@ use crate::lanes::{
 };
 use crate::stacks::{Opened, Opening, Start};
 use crate::tracks::{Track, Tracks};
-use com_base::Memory;
+use com_base::{HOST_STA, MTA, Memory};
 use std::alloc::Global;
 use std::marker::Model;
 
@@ -109,8 +109,10 @@ impl Board {
         settle(self.lanes.as_mut_slice(), lane, home);
     }
 
-    /// Something more stands open in the lane. The only error is want of memory.
+    /// Something more stands open in the lane, which makes less than 2^31 there. The only error is want of
+    /// memory.
     pub fn open(&mut self, lane: u32, what: Opened, start: Start) -> Result<(), Memory>
+        requires { depth_of (lane_at self.old.lanes lane) + 1 < 2 ^ 31 }
         ensures { OnOk result (self.new ≡ with_lanes
             (with_lane (with_opening (record { what = what; start = start })) lane self.old.lanes) self.old) }
     {
@@ -152,12 +154,6 @@ impl Board {
         self.tracks.free(object);
     }
 }
-
-// The multithreaded apartment, in which the pool's lanes are at home.
-const MTA: u32 = 1;
-
-// The apartment of the host's lane, an STA.
-const HOST_STA: u32 = 2;
 
 // A home that was entered above the first section.
 fn home_from_above(apartment: u32) -> Home
