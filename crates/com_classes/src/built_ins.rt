@@ -1,12 +1,13 @@
 //! The built-in interfaces and the bodies of their classes.
 
 ghost use Rattle.std.specs.Prelude.{◌≡◌, [], ◌∷◌, None, All, IfOk};
+ghost use Rattle.com_base.specs.declared.limits.TheConstants.{BODY_LIMIT};
 ghost use Rattle.com_body.specs.Bodies.{IsInRange, fault_of};
 ghost use Rattle.com_classes.specs.BuiltIns.{iunknown, icounter, irelay, ilatch, built_in_interfaces};
 ghost use Rattle.com_classes.specs.BuiltIns.{counter_bodies, relay_bodies, latch_bodies};
 
 use crate::interfaces::{Interface, Method};
-use com_base::{ByteList, Guid, HResult, IID_IUNKNOWN, Kind, Memory, Rows, Value};
+use com_base::{BODY_LIMIT, ByteList, Guid, HResult, IID_IUNKNOWN, Kind, Memory, Rows, Value};
 use com_body::{Arg, Body, Code, Destination, Given, Op, Place, Stmt};
 use std::alloc::Global;
 
@@ -124,10 +125,10 @@ pub fn built_in_interfaces(alloc: Global) -> Result<Rows<Interface>, Memory>
 // The body of statements that are known to be one.
 fn body_of(statements: Vec<Stmt>) -> Body
     requires in_range { All IsInRange statements.items }
-    requires good { fault_of statements.items 200 ≡ None }
+    requires good { fault_of statements.items BODY_LIMIT ≡ None }
     ensures { result ≡ statements.items }
 {
-    match Body::check(statements, 200) {
+    match Body::check(statements, BODY_LIMIT as u32) {
         Ok(body) => body,
         Err(_) => unreachable!(),
     }

@@ -13,7 +13,7 @@ ghost use Rattle.com_classes.specs.Lookups.{interface_refusal, class_refusal};
 
 use crate::built_ins;
 use crate::interfaces::{Interface, Method};
-use com_base::{ByteList, Guid, Memory, Rows};
+use com_base::{ByteList, CLASS_LIMIT, Guid, INTERFACE_LIMIT, Memory, Rows};
 use com_body::{Body, Native};
 use indexmap::IndexMap;
 use std::alloc::Global;
@@ -80,6 +80,14 @@ pub enum ClassError {
     Full,
     /// Want of memory.
     Memory,
+}
+
+impl From<Memory> for ClassError {
+    ghost from_gives = { λ _ e. e ≡ error.Memory };
+
+    fn from(_error: Memory) -> ClassError {
+        ClassError::Memory
+    }
 }
 
 /// The interfaces and the classes, each in the order of declaration.
@@ -166,6 +174,7 @@ impl Classes {
 
     /// The tables with the four built-in interfaces and no class: IUnknown 0, ICounter 1, IRelay 2 and ILatch
     /// 3. The only error is want of memory.
+    #[tactic(auto, using(crate::proofs::BuiltIns::iunknown_is_new, crate::proofs::BuiltIns::icounter_is_new, crate::proofs::BuiltIns::irelay_is_new, crate::proofs::BuiltIns::ilatch_is_new))]
     pub fn new(alloc: Global) -> Result<Classes, Memory>
         ensures interfaces { IfOk result (λ tables. tables.interfaces ≡ built_in_interfaces) }
         ensures classes { IfOk result (λ tables. tables.classes ≡ []) }
@@ -177,22 +186,11 @@ impl Classes {
             relay: built_ins::relay_bodies(alloc)?,
             latch: built_ins::latch_bodies(alloc)?,
         };
-        tables.declare(built_ins::iunknown(alloc)?)?;
-        tables.declare(built_ins::icounter(alloc)?)?;
-        tables.declare(built_ins::irelay(alloc)?)?;
-        tables.declare(built_ins::ilatch(alloc)?)?;
+        tables.put_interface(built_ins::iunknown(alloc)?)?;
+        tables.put_interface(built_ins::icounter(alloc)?)?;
+        tables.put_interface(built_ins::irelay(alloc)?)?;
+        tables.put_interface(built_ins::ilatch(alloc)?)?;
         Ok(tables)
-    }
-
-    // Declares an interface that is built in.
-    fn declare(&mut self, interface: Interface) -> Result<(), Memory>
-        ensures { OnOk result (self.new
-            ≡ record self.old { interfaces = self.old.interfaces ++ interface ∷ [] }) }
-    {
-        match self.add_interface(interface) {
-            Ok(_) => Ok(()),
-            Err(_) => Err(Memory),
-        }
     }
 
     /// Declares an interface and answers its number, the next one.
@@ -210,25 +208,22 @@ impl Classes {
     {
         match self.interface_refusal(&interface) {
             Some(cause) => Err(cause),
-            None => self.put_interface(interface),
+            None => Ok(self.put_interface(interface)?),
         }
     }
 
     // Appends an interface that is not refused. The only error is want of memory.
     #[tactic(auto, using(crate::proofs::Keys::unrefused_interface))]
-    fn put_interface(&mut self, interface: Interface) -> Result<u16, ClassError>
+    fn put_interface(&mut self, interface: Interface) -> Result<u16, Memory>
         requires { interface_refusal self.old interface ≡ None }
-        ensures memory { IfErr result (λ cause. cause ≡ error.Memory) }
         ensures unchanged { OnErr result (self.new ≡ self.old) }
         ensures number { IfOk result (λ number. number ≡ length self.old.interfaces) }
         ensures added { OnOk result (self.new
             ≡ record self.old { interfaces = self.old.interfaces ++ interface ∷ [] }) }
     {
         let number = self.interfaces.len();
-        match append_interface(&mut self.interfaces, interface) {
-            Ok(()) => Ok(number as u16),
-            Err(_) => Err(ClassError::Memory),
-        }
+        append_interface(&mut self.interfaces, interface)?;
+        Ok(number as u16)
     }
 
     // Why an interface is not taken: its IID is declared already, or the table is full. None
@@ -239,7 +234,7 @@ impl Classes {
         if self.find_interface(&interface.iid).is_some() {
             return Some(ClassError::Repeated);
         }
-        if self.interfaces.len() >= 64 {
+        if self.interfaces.len() >= INTERFACE_LIMIT {
             Some(ClassError::Full)
         } else {
             None
@@ -263,25 +258,22 @@ impl Classes {
     {
         match self.class_refusal(&class) {
             Some(cause) => Err(cause),
-            None => self.put_class(class),
+            None => Ok(self.put_class(class)?),
         }
     }
 
     // Appends a class that is not refused. The only error is want of memory.
     #[tactic(auto, using(crate::proofs::Keys::unrefused_class))]
-    fn put_class(&mut self, class: Class) -> Result<u32, ClassError>
+    fn put_class(&mut self, class: Class) -> Result<u32, Memory>
         requires { class_refusal self.old class ≡ None }
-        ensures memory { IfErr result (λ cause. cause ≡ error.Memory) }
         ensures unchanged { OnErr result (self.new ≡ self.old) }
         ensures number { IfOk result (λ number. number ≡ length self.old.classes + 1) }
         ensures added { OnOk result (self.new
             ≡ record self.old { classes = self.old.classes ++ class ∷ [] }) }
     {
         let number = self.classes.len();
-        match append_class(&mut self.classes, class) {
-            Ok(()) => Ok(number as u32 + 1),
-            Err(_) => Err(ClassError::Memory),
-        }
+        append_class(&mut self.classes, class)?;
+        Ok(number as u32 + 1)
     }
 
     // Why a class is not taken: its CLSID is declared already, or the table is full. None where
@@ -292,7 +284,7 @@ impl Classes {
         if self.find_class(&class.clsid).is_some() {
             return Some(ClassError::Repeated);
         }
-        if self.classes.len() >= 64 {
+        if self.classes.len() >= CLASS_LIMIT {
             Some(ClassError::Full)
         } else {
             None

@@ -2,6 +2,7 @@
 
 ghost use Rattle.std.specs.Prelude.{◌≡◌, ℕ, ◌+◌, ◌<◌, ◌≤◌, ◌^◌, All, IfOk, List, OnErr, OnOk, Option, true};
 ghost use Rattle.std.specs.Prelude.{is_some, length, map, slice_index_or, vec_capacity};
+ghost use Rattle.com_base.specs.declared.limits.TheConstants.{ENTRY_2_LIMIT};
 ghost use Rattle.com_base.specs.declared.value.RefValue.{RefValue};
 ghost use Rattle.com_calls.specs.Kept.{IsNamed};
 ghost use Rattle.com_core.specs.Changes.{Becomes, Settles, Takes, sent_by};
@@ -250,7 +251,7 @@ impl Running {
         requires sent { HasIssued entry.now.deed (sent_by issued) }
         requires target { named_at self.old.parts.objects (object_of (issues entry.now.lane entry.now.deed))
             + 1 < 2 ^ 32 }
-        requires room { self.old.parts.entries < 1_000_000 }
+        requires room { self.old.parts.entries < ENTRY_2_LIMIT }
         ensures begun { IfOk result (λ begun. IsBegun self.new.parts (acting_of acting)
             (acting_of basis.after) entry.now.lane entry.now.deed begun) }
         ensures issued { IfOk result (λ begun. begun.calling.issued ≡ sent_by issued) }
@@ -354,7 +355,7 @@ impl Running {
     ) -> Result<(), Memory>
         requires still { is_still self.old.parts self.old.ledger outcome.old entry.now.deed ≡ true }
         requires sound { Sound self.old.parts self.old.entered.counts }
-        requires room { self.old.parts.entries < 1_000_000 }
+        requires room { self.old.parts.entries < ENTRY_2_LIMIT }
         requires takes { Takes self.old.parts self.old.clock outcome.old (sent_by issued) entry.now }
         requires whole { IsWhole outcome.old }
         ensures becomes { OnOk result (Becomes self.old.parts self.new.parts entry.now
@@ -401,7 +402,7 @@ impl Running {
     ) -> Result<(), Memory>
         requires sound { Sound self.old.parts self.old.entered.counts }
         requires few { Few self.old.parts }
-        requires room { self.old.parts.entries < 1_000_000 }
+        requires room { self.old.parts.entries < ENTRY_2_LIMIT }
         requires takes { Takes self.old.parts self.old.clock outcome.old (sent_by issued) entry.now }
         requires fits { FitsBooks scenario.now.classes carried.now (number_or_zero seat.running)
             (tally self.old.ledger.tables self.old.ledger.calls) entry.now.deed }
@@ -449,7 +450,7 @@ impl Running {
         requires sound { Sound self.old.parts self.old.entered.counts }
         requires few { Few self.old.parts }
         requires whole { IsWhole outcome.old }
-        requires room { self.old.parts.entries < 1_000_000 }
+        requires room { self.old.parts.entries < ENTRY_2_LIMIT }
         requires takes { Takes self.old.parts self.old.clock outcome.old (sent_by issued) entry.now }
         requires fits { FitsBooks scenario.now.classes carried.now (number_or_zero (running_seen
             (seen_by scenario.now self.old.parts self.old.fallen.objects self.old.clock) entry.now.lane))

@@ -9,6 +9,10 @@ use com_body::Body;
 use com_classes::Classes;
 use com_filter::Filter;
 
+// The number of threads from which on no lanes are counted. A text declares far fewer: at most
+// `THREAD_LIMIT`.
+const UNCOUNTED_THREADS: usize = 0x1000_0000;
+
 /// A scenario: the version of its language, 1 or 2, the number of pool lanes, the classes and interfaces, the
 /// filters in order, each thread's script, and the lanes that the schedule tries first.
 #[derive(Drop)]
@@ -46,10 +50,10 @@ impl Scenario {
     pub fn lanes(&self) -> Option<u32>
         ensures lanes { IfSome result (λ count. count ≡ lanes self.now) }
         ensures threads { IfSome result (λ count. length self.now.threads + 2 < 2 ^ 32) }
-        ensures none { IfNone result (length self.now.threads < 2 ^ 28 → 2 ^ 32 ≤ lanes self.now) }
+        ensures none { IfNone result (length self.now.threads < UNCOUNTED_THREADS → 2 ^ 32 ≤ lanes self.now) }
     {
         let threads = self.threads.len();
-        if threads >= 0x1000_0000 {
+        if threads >= UNCOUNTED_THREADS {
             return None;
         }
         let lanes = threads as u64 + 1 + self.pool as u64;

@@ -1,5 +1,5 @@
 -- What a change that was begun has for its end.
-use Rattle.std.specs.Prelude.{◌≡◌, ℕ, ◌<◌, ◌^◌, is_none, length}
+use Rattle.std.specs.Prelude.{◌≡◌, ℕ, ◌<◌, is_none, length}
 use Rattle.com_lanes.specs.Rooms.{HasSpace}
 use Rattle.com_model.specs.declared.deeds.Deed.{Deed}
 use Rattle.com_model.specs.Apartments.{ends_sta}
@@ -11,13 +11,14 @@ use Rattle.com_scene.specs.Kept.{NamesOwners}
 use Rattle.com_scene.specs.Prepared.{IsPrepared}
 use Rattle.com_state.specs.Parts.{named_at, openers_at}
 use Rattle.com_parts.specs.declared.change.Begun.{Begun}
+use Rattle.com_parts.specs.declared.parts.TheConstants.{MOST_ENTRIES}
 use Rattle.com_parts.specs.Fits.{Fits, HasIssued, HasPlace, left_in}
 use Rattle.com_parts.specs.Tables.{PartTables}
 
 -- The parts take the entry, all that it brings has room, and this is what it finds of other parts.
 pub record IsBegun (p : PartTables) (acting after : Acting) (l : ℕ) (d : Deed) (b : Begun) : Type 0 where
   pub fits : Fits p.lanes p.objects p.calls l d b.calling.clock
-  pub few : p.entries < 2 ^ 28
+  pub few : p.entries < MOST_ENTRIES
   pub homes : length p.calls.apartments ≡ length p.calls.tables.issues
   pub lanes : HasSpace p.rooms.lanes l d
   pub objects : HasRowFor p.rooms.objects d

@@ -1,9 +1,10 @@
 -- What holds of the parts between entries.
-use Rattle.std.specs.Prelude.{ℕ, ◌≤◌, ◌^◌, length, slice_index_or}
+use Rattle.std.specs.Prelude.{ℕ, ◌≤◌, length, slice_index_or}
 use Rattle.com_calls.specs.Kept.{Kept, IsNamed}
 use Rattle.com_model.specs.Calls.{object_of}
 use Rattle.com_model.specs.Waiting.{no_mail}
 use Rattle.com_state.specs.Parts.{LaneTables, ObjectTables, served_at, issue_at}
+use Rattle.com_parts.specs.declared.parts.TheConstants.{MOST_ENTRIES}
 
 -- No lane has counted more than so many, and no more apartments were made.
 pub record Counted (t : LaneTables) (n : ℕ) : Type 0 where
@@ -15,7 +16,7 @@ pub record Counted (t : LaneTables) (n : ℕ) : Type 0 where
 -- Each entry counts at most one more of each sort; the apartment that is kept of a call is that of its
 -- target; and each call's target was made.
 pub record IsWhole (l : LaneTables) (o : ObjectTables) (b : Kept) (n : ℕ) : Type 0 where
-  pub few : n ≤ 2 ^ 28
+  pub few : n ≤ MOST_ENTRIES
   pub counted : Counted l n
   pub made : length o.makings ≤ n
   pub issued : length b.tables.issues ≤ n

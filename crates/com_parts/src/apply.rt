@@ -18,7 +18,7 @@ ghost use Rattle.com_parts.specs.Fits.{Fits, HasIssued, HasPlace, IsWriting};
 use crate::change::{Begun, Calling, Change};
 use crate::issue::{change_calls, left_value, make_room, target_of};
 use crate::owners::owners_for;
-use crate::parts::Parts;
+use crate::parts::{MOST_ENTRIES, Parts};
 use com_base::Memory;
 use com_body::Outcome;
 use com_calls::Calls;
@@ -95,7 +95,7 @@ impl Parts {
         requires issued { HasIssued change.deed.now change.issued }
         requires target { named_at self.old.objects (object_of (issues change.lane change.deed.now)) + 1
             < 2 ^ 32 }
-        requires few { self.old.entries < 2 ^ 28 }
+        requires few { self.old.entries < MOST_ENTRIES }
         ensures same { IsSame self.old self.new }
         ensures scene { self.new.scene ≡ self.old.scene }
         ensures begun { IfOk result (λ begun. IsBegun self.new (acting_of change.entry.acting)

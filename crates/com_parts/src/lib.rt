@@ -12,4 +12,4 @@ mod owners;
 mod parts;
 
 pub use change::{Begun, Calling, Change, Sent};
-pub use parts::Parts;
+pub use parts::{MOST_ENTRIES, Parts};

@@ -14,6 +14,10 @@ use com_scene::Scene;
 use std::alloc::Global;
 use std::marker::Model;
 
+/// The most entries that may change the parts. An entry counts at most one more of each sort, so their
+/// counters and numbers stay far below the greatest of 32 bits.
+pub const MOST_ENTRIES: u32 = 0x1000_0000;
+
 /// The parts of a core that an entry changes together.
 #[derive(Drop)]
 pub struct Parts {

@@ -10,7 +10,7 @@ ghost use Rattle.com_scene.specs.Seen.{seen, seat_of, seats_of, own_or, HasSeat,
 ghost use Rattle.com_scene.specs.Steps.{frame_with, with_bytes, with_wanted, with_call, with_object};
 
 use crate::writes::{Bytes, Wanted};
-use com_base::{ByteList, HResult, Memory, Value};
+use com_base::{ANSWER_REGISTER, ByteList, HResult, Memory, Value};
 use com_body::{Cells, Destination, Frame};
 use std::alloc::Global;
 use std::marker::Model;
@@ -22,7 +22,7 @@ pub fn receive(frame: &mut Frame, hr: HResult, to: Destination, value: Option<Va
     requires { IsDestination to }
     ensures { frame.new ≡ fold frame_with frame.old (to_answer hr ∷ to_destination to value) }
 {
-    frame.set_register(15, Value::Int(hr.0 as i64));
+    frame.set_register(ANSWER_REGISTER, Value::Int(hr.0 as i64));
     match to {
         Destination::Nowhere => {}
         Destination::Register(number) => {

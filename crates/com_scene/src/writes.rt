@@ -9,7 +9,7 @@ ghost use Rattle.com_scene.specs.Steps.{IsMoreInRange, writing_of, listed, more_
 ghost use Rattle.com_scene.specs.Steps.{frame_with, writes_of};
 ghost use Rattle.com_scene.specs.Steps.{cells_with, bytes_of, wanted_of};
 
-use com_base::{ByteList, HResult, RefValue, Value};
+use com_base::{ANSWER_REGISTER, ByteList, HResult, RefValue, Value};
 use com_body::{Action, Asked, Cells, Destination, Frame, Place};
 use com_model::Deed;
 use std::mem;
@@ -215,7 +215,7 @@ impl Writes {
     {
         let Writes { answer, more } = self;
         if let Some(answer) = answer {
-            frame.set_register(15, Value::Int(answer.0 as i64));
+            frame.set_register(ANSWER_REGISTER, Value::Int(answer.0 as i64));
         }
         put_more(more, frame, cells)
     }

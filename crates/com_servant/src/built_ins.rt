@@ -182,7 +182,7 @@ fn relay_call(alloc: Global, job: &Job) -> Result<Outcome, Memory>
 
 // The HRESULT of the last call: the low 32 bits of its register's number.
 fn last_answer(frame: &Frame) -> HResult
-    ensures { result ≡ record { 0 = cast_unsigned w64 (number_in (register_of frame.now 15)) % 2 ^ 32 } }
+    ensures { result ≡ record { 0 = cast_unsigned w64 (number_in (register_of frame.now ANSWER_REGISTER)) % 2 ^ 32 } }
 {
     let bits = number_in(frame.register(ANSWER_REGISTER)).cast_unsigned();
     HResult((bits % 0x1_0000_0000) as u32)
