@@ -1,5 +1,6 @@
 -- The lanes and the tracks of a picture together, and how they stand before the first entry.
 use Rattle.std.specs.Prelude.{ℕ, zero, suc, List, [], ◌∷◌, ◌++◌, Option, Some, None}
+use Rattle.com_base.specs.declared.apartments.TheConstants.{HOST_STA, MTA}
 use Rattle.com_draw_state.specs.declared.lanes.Home.{Home}
 use Rattle.com_draw_state.specs.declared.lanes.Lane.{Lane}
 use Rattle.com_draw_state.specs.declared.tracks.Track.{Track}
@@ -32,8 +33,8 @@ copies (suc n) x = x ∷ copies n x
 -- The threads' lanes have no home, the host's has the host STA, and the pool's have the MTA.
 abbrev pub first_lanes : (threads pool : ℕ) → List Lane
 first_lanes t p =
-    copies t (new_lane None) ++ copies 1 (new_lane (Some (home_from_above 2)))
-    ++ copies p (new_lane (Some (home_from_above 1)))
+    copies t (new_lane None) ++ copies 1 (new_lane (Some (home_from_above HOST_STA)))
+    ++ copies p (new_lane (Some (home_from_above MTA)))
 
 -- The picture before the first entry: the threads' lanes, the host's lane and the pool's, and no track.
 abbrev pub first_board : (threads pool : ℕ) → State

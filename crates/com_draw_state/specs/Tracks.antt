@@ -3,6 +3,7 @@
 use Rattle.std.specs.Prelude.{ℕ, ◌+◌, Bool, true, false, ◌==◌, ◌&&◌, nat_lt, if◌then◌else◌}
 use Rattle.std.specs.Prelude.{List, [], ◌∷◌, ◌++◌, Option, Some, None, length, slice_set}
 use Rattle.com_draw_state.specs.declared.stacks.Start.{Start}
+use Rattle.com_draw_state.specs.declared.tracks.TheConstants.{TRACKS}
 use Rattle.com_draw_state.specs.declared.tracks.Track.{Track}
 
 -- ---- one track
@@ -54,11 +55,11 @@ free_in n [] = None
 free_in n (None ∷ ts) = Some n
 free_in n (Some t ∷ ts) = free_in (n + 1) ts
 
--- An object that is made takes the first free track, else one that was not used yet, of which there are 16.
+-- An object that is made takes the first free track, else one that was not used yet. There are `TRACKS` tracks.
 abbrev pub taken_at : Track → List (Option Track) → Option ℕ → List (Option Track)
-taken_at t ts None = if nat_lt (length ts) 16 then ts ++ Some t ∷ [] else ts
+taken_at t ts None = if nat_lt (length ts) TRACKS then ts ++ Some t ∷ [] else ts
 taken_at t ts (Some n) = slice_set ts n (Some t)
 
--- The tracks with that of a new object. Where 16 objects have one already, the new object gets none.
+-- The tracks with that of a new object. Where each of the `TRACKS` tracks is an object's already, the new object gets none.
 abbrev pub taken : Track → List (Option Track) → List (Option Track)
 taken t ts = taken_at t ts (free_in 0 ts)

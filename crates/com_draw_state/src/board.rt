@@ -11,7 +11,7 @@ use crate::lanes::{
 };
 use crate::stacks::{Opened, Opening, Start};
 use crate::tracks::{Track, Tracks};
-use com_base::Memory;
+use com_base::{HOST_STA, MTA, Memory};
 use std::alloc::Global;
 use std::marker::Model;
 
@@ -152,12 +152,6 @@ impl Board {
         self.tracks.free(object);
     }
 }
-
-// The multithreaded apartment, in which the pool's lanes are at home.
-const MTA: u32 = 1;
-
-// The apartment of the host's lane, an STA.
-const HOST_STA: u32 = 2;
 
 // A home that was entered above the first section.
 fn home_from_above(apartment: u32) -> Home

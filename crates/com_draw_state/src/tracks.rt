@@ -1,5 +1,6 @@
 //! The tracks beside the lanes, in which the lives of objects are drawn.
 ghost use Rattle.std.specs.Prelude.{◌≡◌, ◌<◌, ◌≤◌, [], IfSome, OnOk, length, map, slice_set};
+ghost use Rattle.com_draw_state.specs.declared.tracks.TheConstants.{TRACKS};
 ghost use Rattle.com_draw_state.specs.Tracks.{cut, cut_of_apartment, cut_of_object, free_in, freed};
 ghost use Rattle.com_draw_state.specs.Tracks.{is_live_in, is_live_of, is_of, taken, taken_at, track_of};
 
@@ -24,7 +25,7 @@ pub struct Track {
     pub start: Start,
 }
 
-/// The tracks that were used so far, at most 16, each with the life of an object or free.
+/// The tracks that were used so far, at most `TRACKS`, each with the life of an object or free.
 #[derive(Drop)]
 pub struct Tracks {
     tracks: Vec<Option<Track>>,
@@ -32,13 +33,14 @@ pub struct Tracks {
 
 impl Model for Tracks {
     ghost use Rattle.std.specs.Prelude.{List, Option, ◌≤◌, length};
+    ghost use Rattle.com_draw_state.specs.declared.tracks.TheConstants.{TRACKS};
     ghost use Rattle.com_draw_state.specs.declared.tracks.Track.{Track};
 
     ghost Value = { List (Option Track) };
 
     ghost view = { λ t. t.tracks.items };
 
-    ghost invariant = { λ t. length t.tracks.items ≤ 16 };
+    ghost invariant = { λ t. length t.tracks.items ≤ TRACKS };
 }
 
 impl Tracks {
@@ -54,7 +56,7 @@ impl Tracks {
     /// The tracks that were used so far.
     pub fn as_slice(&self) -> &[Option<Track>]
         ensures value { result.now ≡ self.now }
-        ensures few { length result.now ≤ 16 }
+        ensures few { length result.now ≤ TRACKS }
     {
         self.tracks.as_slice()
     }
@@ -62,7 +64,7 @@ impl Tracks {
     /// The number of the track of an object, from 0.
     pub fn track_of(&self, object: u32) -> Option<u32>
         ensures value { result ≡ track_of 0 object self.now }
-        ensures few { IfSome result (λ number. number < 16) }
+        ensures few { IfSome result (λ number. number < TRACKS) }
     {
         find(self.tracks.as_slice(), object)
     }
@@ -159,9 +161,9 @@ pub fn is_live_in(track: &Option<Track>, apartment: u32) -> bool
 
 // The number of the track of an object among these, which are counted from 0.
 fn find(tracks: &[Option<Track>], object: u32) -> Option<u32>
-    requires { length tracks.now ≤ 16 }
+    requires { length tracks.now ≤ TRACKS }
     ensures value { result ≡ track_of 0 object tracks.now }
-    ensures few { IfSome result (λ number. number < 16) }
+    ensures few { IfSome result (λ number. number < TRACKS) }
 {
     let mut rest = tracks;
     let mut number = 0u32;
