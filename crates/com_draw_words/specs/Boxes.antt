@@ -1,6 +1,8 @@
 -- Boxes, and the marks of objects that are touched.
 use Rattle.std.specs.Prelude.{ℕ, ◌+◌, ◌-◌, ◌%◌, Bool, true, false, ◌&&◌, ◌||◌, nat_le, nat_lt, if◌then◌else◌}
 use Rattle.std.specs.Prelude.{List, [], ◌++◌, codes}
+use Rattle.com_base.specs.declared.apartments.TheConstants.{FIRST_STA}
+use Rattle.com_draw_words.specs.declared.boxes.TheConstants.{THREAD_HUES}
 use Rattle.com_draw_words.specs.declared.boxes.BoxKind.{BoxKind}
 use Rattle.com_draw_words.specs.declared.boxes.BoxKind.TheVariants as kind
 use Rattle.com_draw_words.specs.declared.boxes.BoxText.{BoxText}
@@ -13,7 +15,7 @@ use Rattle.com_draw_words.specs.Escapes.{word_and_number}
 
 -- The number of an apartment's hue.
 abbrev pub hue_of : ℕ → ℕ
-hue_of a = if nat_lt a 3 then a else 3 + (a - 3) % 6
+hue_of a = if nat_lt a FIRST_STA then a else FIRST_STA + (a - FIRST_STA) % THREAD_HUES
 
 -- The class of a box by what it stands for; `none` is that of a call that was refused at its issue.
 abbrev pub kind_text : BoxKind → List ℕ

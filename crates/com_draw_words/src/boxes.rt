@@ -6,7 +6,7 @@ ghost use Rattle.com_draw_words.specs.Boxes.{touch_text, up_text};
 
 use crate::limits::LEVELS;
 use crate::texts::{push_number, push_word_and_number};
-use com_base::{ByteList, Memory};
+use com_base::{ByteList, FIRST_STA, Memory};
 
 /// What a box stands for.
 #[derive(Debug, Clone, Copy, PartialEq, Eq)]
@@ -74,14 +74,17 @@ pub struct DrawnBox {
     pub text: BoxText,
 }
 
+// How many hues the single-threaded apartments of threads have, in turn.
+const THREAD_HUES: u32 = 6;
+
 /// The number of an apartment's hue: 0 to 2 for the first three, and for the others 3 to 8 in turn.
 pub fn hue_of(apartment: u32) -> u8
     ensures { result ≡ hue_of apartment }
 {
-    if apartment < 3 {
+    if apartment < FIRST_STA {
         return apartment as u8;
     }
-    (3 + (apartment - 3) % 6) as u8
+    (FIRST_STA + (apartment - FIRST_STA) % THREAD_HUES) as u8
 }
 
 // Appends the class of a box by what it stands for.

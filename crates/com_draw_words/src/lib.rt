@@ -22,7 +22,7 @@ pub use ends::{
 pub use labels::{LabelClass, Look, label_width, push_label};
 pub use limits::{
     BESIDE, CHAR, EDGE, FULL, IDLE, LABEL_MOST, LEAST, LEVELS, LIMIT, ROWS, STEP, STORY_WIDTH,
-    TRACK_WIDTH, TRACKS,
+    TRACK_WIDTH,
 };
 pub use rows::{
     Mark, push_entry_front, push_gap, push_reason_front, push_row_end, push_row_middle,

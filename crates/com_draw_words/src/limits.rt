@@ -6,8 +6,6 @@ pub const ROWS: u32 = 40;
 pub const LIMIT: u64 = 5000;
 /// The deepest level at which a box of a lane, a label or an arrow stands.
 pub const LEVELS: u32 = 24;
-/// How many objects are drawn at a time.
-pub const TRACKS: u32 = 16;
 /// How many pixels a level is wide, for the width of a lane.
 pub const STEP: u32 = 17;
 /// How many pixels a byte of a label is wide.
