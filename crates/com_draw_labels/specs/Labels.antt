@@ -17,7 +17,9 @@ use Rattle.com_model.specs.Text.{hresult_text, named}
 use Rattle.com_draw_names.specs.declared.contexts.Born.{Born}
 use Rattle.com_draw_names.specs.declared.contexts.Caller.{Caller}
 use Rattle.com_draw_names.specs.declared.contexts.Context.{Context}
-use Rattle.com_draw_names.specs.Failures.{has_failed, hresult_behind, hresult_if}
+use Rattle.com_model.specs.Answers.{is_failure}
+use Rattle.com_draw_names.specs.Failures.{hresult_behind, hresult_if}
+use Rattle.com_draw_names.specs.declared.filters.TheConstants.{LEAST_DELAY}
 use Rattle.com_draw_names.specs.Filters.{later_words, verdict_verb}
 use Rattle.com_draw_names.specs.Names.{called_words, class_words, interface_words, method_words, object_text}
 use Rattle.com_draw_names.specs.Values.{given_text, passed_text}
@@ -27,7 +29,7 @@ use Rattle.com_draw_labels.specs.Words.{failed_label, words_named, words_place, 
 
 abbrev pub init_label : (version home : ℕ) → (has_home : Bool) → HResult → List ℕ
 init_label v a has_home hr =
-    if has_failed hr then failed_label (codes "init") v hr
+    if is_failure hr then failed_label (codes "init") v hr
     else if has_home then codes "enters again"
     else words_place (codes "enters ") a
 
@@ -46,7 +48,7 @@ made_label t b class =
     ++ words_named (codes " in ") (codes "a") b.apartment
 
 abbrev pub create_label : Tables → (version : ℕ) → Born → Asked → HResult → List ℕ
-create_label t v b class hr = if has_failed hr then unmade_label t v class hr else made_label t b class
+create_label t v b class hr = if is_failure hr then unmade_label t v class hr else made_label t b class
 
 abbrev pub query_label : Tables → (version : ℕ) → (object : Option ℕ) → Asked → HResult → List ℕ
 query_label t v o i hr = object_text o ++ codes " as " ++ interface_words t i ++ hresult_if v hr
@@ -67,38 +69,38 @@ object_and_packet before o between p = words_named before (codes "o") o ++ words
 
 abbrev pub marshal_label : (version : ℕ) → (packet object : Option ℕ) → HResult → List ℕ
 marshal_label v p o hr =
-    if has_failed hr then failed_label (codes "pack") v hr
+    if is_failure hr then failed_label (codes "pack") v hr
     else object_and_packet (codes "packs ") o (codes " in ") p
 
 abbrev pub unmarshal_label : (version : ℕ) → (packet object : Option ℕ) → HResult → List ℕ
 unmarshal_label v p o hr =
-    if has_failed hr then failed_label (codes "unpack") v hr
+    if is_failure hr then failed_label (codes "unpack") v hr
     else object_and_packet (codes "unpacks ") o (codes " from ") p
 
 abbrev pub drop_label : (version : ℕ) → (packet : Option ℕ) → HResult → List ℕ
 drop_label v p hr =
-    if has_failed hr then failed_label (codes "drop") v hr else words_named (codes "drops ") (codes "pk") p
+    if is_failure hr then failed_label (codes "drop") v hr else words_named (codes "drops ") (codes "pk") p
 
 abbrev pub registered_label : (cookie object : Option ℕ) → List ℕ
 registered_label g o = named (codes "o") o ++ words_named (codes " gets cookie ") [] g
 
 abbrev pub register_label : (version : ℕ) → (cookie object : Option ℕ) → HResult → List ℕ
 register_label v g o hr =
-    if has_failed hr then failed_label (codes "register") v hr else registered_label g o
+    if is_failure hr then failed_label (codes "register") v hr else registered_label g o
 
 abbrev pub got_label : (cookie : ℤ) → (object : Option ℕ) → List ℕ
 got_label g o = named (codes "o") o ++ words_signed (codes " by cookie ") g
 
 abbrev pub get_label : (version : ℕ) → (cookie : ℤ) → (object : Option ℕ) → HResult → List ℕ
-get_label v g o hr = if has_failed hr then failed_label (codes "get") v hr else got_label g o
+get_label v g o hr = if is_failure hr then failed_label (codes "get") v hr else got_label g o
 
 abbrev pub revoke_label : (version : ℕ) → (cookie : ℤ) → HResult → List ℕ
 revoke_label v g hr =
-    if has_failed hr then failed_label (codes "revoke") v hr else words_signed (codes "revokes cookie ") g
+    if is_failure hr then failed_label (codes "revoke") v hr else words_signed (codes "revokes cookie ") g
 
 abbrev pub disconnect_label : (version : ℕ) → (object : Option ℕ) → HResult → List ℕ
 disconnect_label v o hr =
-    if has_failed hr then failed_label (codes "disconnect") v hr
+    if is_failure hr then failed_label (codes "disconnect") v hr
     else words_named (codes "disconnects ") (codes "o") o
 
 -- ---- filters, words and pumps
@@ -114,11 +116,11 @@ abbrev pub sent_label : (to word : ℤ) → List ℕ
 sent_label m w = words_signed (codes "word ") w ++ words_signed (codes " to L") m
 
 abbrev pub post_label : (version : ℕ) → (to word : ℤ) → HResult → List ℕ
-post_label v m w hr = if has_failed hr then failed_label (codes "post") v hr else sent_label m w
+post_label v m w hr = if is_failure hr then failed_label (codes "post") v hr else sent_label m w
 
 abbrev pub quit_label : (version : ℕ) → (to : ℤ) → HResult → List ℕ
 quit_label v m hr =
-    if has_failed hr then failed_label (codes "quit") v hr else words_signed (codes "quit to L") m
+    if is_failure hr then failed_label (codes "quit") v hr else words_signed (codes "quit to L") m
 
 abbrev pub pump_label : ℕ → List ℕ
 pump_label n = if n == 0 then codes "pumps" else word_and_number (codes "pumps for ") n
@@ -159,7 +161,7 @@ later_label c n = word_and_number (codes "c") c ++ later_words n
 abbrev pub retry_label : (call : ℕ) → ℤ → List ℕ
 retry_label c n =
     if int_lt n (pos 0) then word_and_number (codes "gives up c") c
-    else if int_lt n (pos 100) then word_and_number (codes "again c") c
+    else if int_lt n LEAST_DELAY then word_and_number (codes "again c") c
     else later_label c n
 
 abbrev pub pending_label : (call : ℕ) → (word : ℤ) → (answer : ℕ) → List ℕ

@@ -12,7 +12,7 @@ use Rattle.com_model.specs.declared.deeds.Deed.{Deed}
 use Rattle.com_model.specs.declared.deeds.Deed.TheVariants as deed
 use Rattle.com_model.specs.declared.deeds.Route.{Route}
 use Rattle.com_model.specs.declared.deeds.Route.TheVariants as route
-use Rattle.com_draw_names.specs.Failures.{has_failed}
+use Rattle.com_model.specs.Answers.{is_failure}
 
 abbrev pub is_refused : Route → Bool
 is_refused route.Refused = true
@@ -20,26 +20,26 @@ is_refused _ = false
 
 -- Whether what an entry says is bad.
 abbrev pub is_bad : Deed → Bool
-is_bad (deed.Init m home hr) = has_failed hr
-is_bad (deed.Made object apartment class iface hr) = has_failed hr
-is_bad (deed.Query object iface hr) = has_failed hr
-is_bad (deed.Marshal packet m held refs hr bytes) = has_failed hr
-is_bad (deed.Unmarshal packet held refs hr) = has_failed hr
-is_bad (deed.DropPacket packet hr) = has_failed hr
-is_bad (deed.Register cookie held hr) = has_failed hr
-is_bad (deed.Get cookie held refs hr) = has_failed hr
-is_bad (deed.Revoke cookie hr) = has_failed hr
+is_bad (deed.Init m home hr) = is_failure hr
+is_bad (deed.Made object apartment class iface hr) = is_failure hr
+is_bad (deed.Query object iface hr) = is_failure hr
+is_bad (deed.Marshal packet m held refs hr bytes) = is_failure hr
+is_bad (deed.Unmarshal packet held refs hr) = is_failure hr
+is_bad (deed.DropPacket packet hr) = is_failure hr
+is_bad (deed.Register cookie held hr) = is_failure hr
+is_bad (deed.Get cookie held refs hr) = is_failure hr
+is_bad (deed.Revoke cookie hr) = is_failure hr
 is_bad (deed.SetFilter filter hr) = not (hr.0 == 0)
-is_bad (deed.Post to word hr) = has_failed hr
-is_bad (deed.Quit to hr) = has_failed hr
+is_bad (deed.Post to word hr) = is_failure hr
+is_bad (deed.Quit to hr) = is_failure hr
 is_bad (deed.Out call object iface method r cause bytes) = is_refused r
 is_bad (deed.Verdict call call_type v) = true
 is_bad (deed.Refuse call hr) = true
-is_bad (deed.Leave call hr v bytes) = has_failed hr
+is_bad (deed.Leave call hr v bytes) = is_failure hr
 is_bad (deed.Retry call answer) = int_lt answer (pos 0)
-is_bad (deed.Back call hr v) = has_failed hr
+is_bad (deed.Back call hr v) = is_failure hr
 is_bad (deed.Pending call word answer) = answer == 0
-is_bad (deed.Disconnect object hr) = has_failed hr
+is_bad (deed.Disconnect object hr) = is_failure hr
 is_bad _ = false
 
 -- The call of an entry, in the kinds that have one.
@@ -67,7 +67,7 @@ mark_of d = if has_label d then (if is_bad d then mark.Bad else mark.Plain) else
 -- What a label is about.
 abbrev pub new_class : Option ℕ → HResult → LabelClass
 new_class None hr = class.Plain
-new_class (Some a) hr = if has_failed hr then class.Plain else class.New (hue_of a)
+new_class (Some a) hr = if is_failure hr then class.Plain else class.New (hue_of a)
 
 abbrev pub label_class : Deed → LabelClass
 label_class (deed.Made object apartment asked iface hr) = new_class apartment hr

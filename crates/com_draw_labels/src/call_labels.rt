@@ -10,7 +10,7 @@ use crate::words::{push_failed, push_words_signed};
 use com_base::{ByteList, HResult, Memory, Value};
 use com_classes::Classes;
 use com_draw_names::{
-    Caller, has_failed, push_called, push_given, push_hresult, push_hresult_behind, push_later,
+    Caller, LEAST_DELAY, push_called, push_given, push_hresult, push_hresult_behind, push_later,
     push_method, push_object, push_passed, push_verb,
 };
 use com_draw_words::push_word_and_number;
@@ -59,7 +59,7 @@ pub(crate) fn push_post(
 ) -> Result<(), Memory>
     ensures { OnOk result (out.new ≡ out.old ++ post_label version to word hr) }
 {
-    if has_failed(hr) {
+    if hr.is_failure() {
         return push_failed(out, b"post", version, hr);
     }
     push_sent(out, to, word)
@@ -69,7 +69,7 @@ pub(crate) fn push_post(
 pub(crate) fn push_quit(out: &mut ByteList, version: u8, to: i64, hr: HResult) -> Result<(), Memory>
     ensures { OnOk result (out.new ≡ out.old ++ quit_label version to hr) }
 {
-    if has_failed(hr) {
+    if hr.is_failure() {
         return push_failed(out, b"quit", version, hr);
     }
     push_words_signed(out, b"quit to L", to)
@@ -198,14 +198,14 @@ fn push_later_label(out: &mut ByteList, call: u32, answer: i64) -> Result<(), Me
 }
 
 // Appends what the caller's filter says of a call that was not taken: below 0 the call is given
-// up, below 100 it goes again at once, and else so many milliseconds later.
+// up, below `LEAST_DELAY` it goes again at once, and else so many milliseconds later.
 pub(crate) fn push_retry(out: &mut ByteList, call: u32, answer: i64) -> Result<(), Memory>
     ensures { OnOk result (out.new ≡ out.old ++ retry_label call answer) }
 {
     if answer < 0 {
         return push_word_and_number(out, b"gives up c", call);
     }
-    if answer < 100 {
+    if answer < LEAST_DELAY {
         return push_word_and_number(out, b"again c", call);
     }
     push_later_label(out, call, answer)

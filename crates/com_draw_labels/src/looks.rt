@@ -4,7 +4,6 @@ ghost use Rattle.com_draw_labels.specs.Looks.{call_of, has_label, is_bad, is_ref
 ghost use Rattle.com_draw_labels.specs.Looks.{label_ident, look, mark_of, new_class};
 
 use com_base::HResult;
-use com_draw_names::has_failed;
 use com_draw_words::{LabelClass, Look, Mark, hue_of};
 use com_model::{Deed, Route};
 
@@ -36,7 +35,7 @@ pub fn is_bad(deed: &Deed) -> bool
         | Deed::Quit { hr, .. }
         | Deed::Leave { hr, .. }
         | Deed::Back { hr, .. }
-        | Deed::Disconnect { hr, .. } => has_failed(*hr),
+        | Deed::Disconnect { hr, .. } => hr.is_failure(),
         Deed::SetFilter { hr, .. } => hr.0 != 0,
         Deed::Out { route, .. } => is_refused(*route),
         Deed::Verdict { .. } | Deed::Refuse { .. } => true,
@@ -95,7 +94,7 @@ fn new_class(apartment: Option<u32>, hr: HResult) -> LabelClass
     let Some(apartment) = apartment else {
         return LabelClass::Plain;
     };
-    if has_failed(hr) {
+    if hr.is_failure() {
         return LabelClass::Plain;
     }
     LabelClass::New(hue_of(apartment))

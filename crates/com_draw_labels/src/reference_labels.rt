@@ -11,8 +11,7 @@ use com_base::{ByteList, HResult, Memory, RefValue};
 use com_body::Asked;
 use com_classes::Classes;
 use com_draw_names::{
-    Born, has_failed, push_class, push_hresult_behind, push_hresult_if, push_interface, push_named,
-    push_object,
+    Born, push_class, push_hresult_behind, push_hresult_if, push_interface, push_named, push_object,
 };
 use com_draw_words::push_word_and_number;
 
@@ -27,7 +26,7 @@ pub(crate) fn push_init(
 ) -> Result<(), Memory>
     ensures { OnOk result (out.new ≡ out.old ++ init_label version home has_home hr) }
 {
-    if has_failed(hr) {
+    if hr.is_failure() {
         return push_failed(out, b"init", version, hr);
     }
     if has_home {
@@ -86,7 +85,7 @@ pub(crate) fn push_create(
 ) -> Result<(), Memory>
     ensures { OnOk result (out.new ≡ out.old ++ create_label classes.now version born class.now hr) }
 {
-    if has_failed(hr) {
+    if hr.is_failure() {
         return push_unmade(out, classes, version, class, hr);
     }
     push_made(out, classes, born, class)
@@ -153,7 +152,7 @@ pub(crate) fn push_marshal(
 ) -> Result<(), Memory>
     ensures { OnOk result (out.new ≡ out.old ++ marshal_label version packet object hr) }
 {
-    if has_failed(hr) {
+    if hr.is_failure() {
         return push_failed(out, b"pack", version, hr);
     }
     push_object_and_packet(out, b"packs ", object, b" in ", packet)
@@ -169,7 +168,7 @@ pub(crate) fn push_unmarshal(
 ) -> Result<(), Memory>
     ensures { OnOk result (out.new ≡ out.old ++ unmarshal_label version packet object hr) }
 {
-    if has_failed(hr) {
+    if hr.is_failure() {
         return push_failed(out, b"unpack", version, hr);
     }
     push_object_and_packet(out, b"unpacks ", object, b" from ", packet)
@@ -184,7 +183,7 @@ pub(crate) fn push_drop(
 ) -> Result<(), Memory>
     ensures { OnOk result (out.new ≡ out.old ++ drop_label version packet hr) }
 {
-    if has_failed(hr) {
+    if hr.is_failure() {
         return push_failed(out, b"drop", version, hr);
     }
     push_words_named(out, b"drops ", b"pk", packet)
@@ -212,7 +211,7 @@ pub(crate) fn push_register(
 ) -> Result<(), Memory>
     ensures { OnOk result (out.new ≡ out.old ++ register_label version cookie object hr) }
 {
-    if has_failed(hr) {
+    if hr.is_failure() {
         return push_failed(out, b"register", version, hr);
     }
     push_registered(out, cookie, object)
@@ -236,7 +235,7 @@ pub(crate) fn push_get(
 ) -> Result<(), Memory>
     ensures { OnOk result (out.new ≡ out.old ++ get_label version cookie object hr) }
 {
-    if has_failed(hr) {
+    if hr.is_failure() {
         return push_failed(out, b"get", version, hr);
     }
     push_got(out, cookie, object)
@@ -251,7 +250,7 @@ pub(crate) fn push_revoke(
 ) -> Result<(), Memory>
     ensures { OnOk result (out.new ≡ out.old ++ revoke_label version cookie hr) }
 {
-    if has_failed(hr) {
+    if hr.is_failure() {
         return push_failed(out, b"revoke", version, hr);
     }
     push_words_signed(out, b"revokes cookie ", cookie)
@@ -266,7 +265,7 @@ pub(crate) fn push_disconnect(
 ) -> Result<(), Memory>
     ensures { OnOk result (out.new ≡ out.old ++ disconnect_label version object hr) }
 {
-    if has_failed(hr) {
+    if hr.is_failure() {
         return push_failed(out, b"disconnect", version, hr);
     }
     push_words_named(out, b"disconnects ", b"o", object)

@@ -1,12 +1,9 @@
--- HRESULTs: which of them tell a failure, and what is said of them.
-use Rattle.std.specs.Prelude.{ℕ, ◌==◌, Bool, nat_le, if◌then◌else◌, List, [], ◌++◌, Option, Some, None}
+-- HRESULTs: what is said of them.
+use Rattle.std.specs.Prelude.{ℕ, ◌==◌, if◌then◌else◌, List, [], ◌++◌, Option, Some, None}
 use Rattle.std.specs.Prelude.{unwrap_or, codes}
 use Rattle.com_base.specs.declared.hresult.HResult.{HResult}
+use Rattle.com_model.specs.Answers.{is_failure}
 use Rattle.com_model.specs.Text.{hresult_text}
-
--- Whether an HRESULT tells a failure.
-abbrev pub has_failed : HResult → Bool
-has_failed hr = nat_le 0x80000000 hr.0
 
 -- What an HRESULT says, where the format has words for it.
 abbrev pub gloss_of : ℕ → Option (List ℕ)
@@ -40,7 +37,7 @@ failure_text version hr = codes ": " ++ gloss version hr
 
 -- Why something failed, where the HRESULT tells a failure; else nothing.
 abbrev pub failure_if : (version : ℕ) → HResult → List ℕ
-failure_if version hr = if has_failed hr then failure_text version hr else []
+failure_if version hr = if is_failure hr then failure_text version hr else []
 
 -- An HRESULT behind a colon, as the entry's line has it.
 abbrev pub hresult_behind : (version : ℕ) → HResult → List ℕ
@@ -48,4 +45,4 @@ hresult_behind version hr = codes ": " ++ hresult_text version hr
 
 -- The HRESULT as the entry's line has it, where it tells a failure; else nothing.
 abbrev pub hresult_if : (version : ℕ) → HResult → List ℕ
-hresult_if version hr = if has_failed hr then hresult_behind version hr else []
+hresult_if version hr = if is_failure hr then hresult_behind version hr else []

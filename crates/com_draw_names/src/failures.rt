@@ -1,18 +1,11 @@
-//! HRESULTs: which of them tell a failure, and what is said of them.
+//! HRESULTs: what is said of them.
 ghost use Rattle.std.specs.Prelude.{◌≡◌, ◌++◌, OnOk};
 ghost use Rattle.std.specs.Option.{option_copied};
 ghost use Rattle.com_model.specs.Text.{hresult_text};
-ghost use Rattle.com_draw_names.specs.Failures.{failure_if, failure_text, gloss, gloss_of, has_failed};
+ghost use Rattle.com_draw_names.specs.Failures.{failure_if, failure_text, gloss, gloss_of};
 ghost use Rattle.com_draw_names.specs.Failures.{hresult_behind, hresult_if};
 
 use com_base::{ByteList, HResult, Memory};
-
-/// Whether an HRESULT tells a failure.
-pub fn has_failed(hr: HResult) -> bool
-    ensures { result ≡ has_failed hr }
-{
-    hr.0 >= 0x8000_0000
-}
 
 // What an HRESULT says, where there are words for it.
 fn gloss_of(hr: HResult) -> Option<&'static str>
@@ -76,7 +69,7 @@ pub fn push_failure(out: &mut ByteList, version: u8, hr: HResult) -> Result<(), 
 pub fn push_failure_if(out: &mut ByteList, version: u8, hr: HResult) -> Result<(), Memory>
     ensures { OnOk result (out.new ≡ out.old ++ failure_if version hr) }
 {
-    if has_failed(hr) {
+    if hr.is_failure() {
         return push_failure(out, version, hr);
     }
     Ok(())
@@ -94,7 +87,7 @@ pub fn push_hresult_behind(out: &mut ByteList, version: u8, hr: HResult) -> Resu
 pub fn push_hresult_if(out: &mut ByteList, version: u8, hr: HResult) -> Result<(), Memory>
     ensures { OnOk result (out.new ≡ out.old ++ hresult_if version hr) }
 {
-    if has_failed(hr) {
+    if hr.is_failure() {
         return push_hresult_behind(out, version, hr);
     }
     Ok(())

@@ -3,6 +3,7 @@ ghost use Rattle.std.specs.Prelude.{◌≡◌, ◌++◌, ◌≤◌, OnOk, length
 ghost use Rattle.std.specs.List.{flat_map};
 ghost use Rattle.hex.specs.Hex.{encode_lower};
 ghost use Rattle.com_model.specs.Text.{later_value_text, value_text, values_text};
+ghost use Rattle.com_draw_names.specs.declared.values.TheConstants.{PIECE};
 ghost use Rattle.com_draw_names.specs.Values.{given_text, passed_text, shown_given, shown_value, value_words};
 
 use crate::names::push_signed;
@@ -14,11 +15,11 @@ use std::alloc::Global;
 const PIECE: usize = 64;
 
 // How many digits they have.
-const DIGITS: usize = 128;
+const DIGITS: usize = 2 * PIECE;
 
-// Appends at most 64 bytes in lower-case hexadecimal digits.
+// Appends at most `PIECE` bytes in lower-case hexadecimal digits.
 fn push_digits(out: &mut ByteList, piece: &[u8]) -> Result<(), Memory>
-    requires { length piece.now ≤ 64 }
+    requires { length piece.now ≤ PIECE }
     ensures { OnOk result (out.new ≡ out.old ++ encode_lower piece.now) }
 {
     let mut digits = [0u8; DIGITS];

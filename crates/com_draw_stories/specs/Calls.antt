@@ -19,7 +19,9 @@ use Rattle.com_draw_names.specs.declared.contexts.Context.{Context}
 use Rattle.com_draw_stories.specs.declared.speakers.Called.{Called}
 use Rattle.com_draw_stories.specs.declared.speakers.Entered.{Entered}
 use Rattle.com_draw_stories.specs.declared.speakers.Speaker.{Speaker}
-use Rattle.com_draw_names.specs.Failures.{failure_text, has_failed}
+use Rattle.com_model.specs.Answers.{is_failure}
+use Rattle.com_draw_names.specs.Failures.{failure_text}
+use Rattle.com_draw_names.specs.declared.filters.TheConstants.{LEAST_DELAY}
 use Rattle.com_draw_names.specs.Filters.{later_words, verdict_verb}
 use Rattle.com_draw_names.specs.Names.{object_text, place_text, shown_called, shown_method}
 use Rattle.com_draw_names.specs.Values.{shown_given}
@@ -48,7 +50,7 @@ sent_story l m w = lane_signed l (codes " sends word ") w ++ codes " to L" ++ si
 -- That a lane sends a word to a lane, or why it cannot.
 abbrev pub post_story : Speaker → (to word : ℤ) → HResult → List ℕ
 post_story s m w hr =
-    if has_failed hr then signed_fails s (codes " cannot send a word to lane ") m hr
+    if is_failure hr then signed_fails s (codes " cannot send a word to lane ") m hr
     else sent_story s.lane m w
 
 -- That a lane tells a lane to end its pump.
@@ -58,7 +60,7 @@ told_story l m = lane_signed l (codes " tells L") m ++ codes " to end its pump"
 -- That a lane tells a lane to end its pump, or why it cannot.
 abbrev pub quit_story : Speaker → (to : ℤ) → HResult → List ℕ
 quit_story s m hr =
-    if has_failed hr then signed_fails s (codes " cannot send a quit to lane ") m hr else told_story s.lane m
+    if is_failure hr then signed_fails s (codes " cannot send a quit to lane ") m hr else told_story s.lane m
 
 -- That a lane pumps until so many bodies have left.
 abbrev pub bound_story : (lane bound : ℕ) → List ℕ
@@ -141,7 +143,7 @@ enter_story t l c b = entered_method t l c.caller b ++ entered_call l c b.call_t
 
 -- How a call ended: why it failed, or what it gave.
 abbrev pub outcome : (version : ℕ) → HResult → Option Value → List ℕ
-outcome version hr v = if has_failed hr then failure_text version hr else shown_given v
+outcome version hr v = if is_failure hr then failure_text version hr else shown_given v
 
 -- That nobody waits for the answer of a call, where nobody does.
 abbrev pub unwaited : Option Caller → List ℕ
@@ -157,9 +159,9 @@ leave_story s c hr v =
 abbrev pub back_story : Speaker → (call : ℕ) → HResult → Option Value → List ℕ
 back_story s c hr v = lane_does s.lane (codes " has the answer of ") ++ link_text c ++ outcome s.version hr v
 
--- When a call is sent again, by a filter's answer: at once below 100, and else after so many milliseconds.
+-- When a call is sent again, by a filter's answer: at once below `LEAST_DELAY`, and else after so many milliseconds.
 abbrev pub again_words : ℤ → List ℕ
-again_words n = if int_lt n (pos 100) then codes " again at once" else later_words n
+again_words n = if int_lt n LEAST_DELAY then codes " again at once" else later_words n
 
 -- That a lane's filter has a call sent again, and when.
 abbrev pub sends_again : (lane call : ℕ) → (answer : ℤ) → List ℕ

@@ -12,7 +12,8 @@ use Rattle.com_draw_words.specs.Escapes.{escaped, word_and_number}
 use Rattle.com_model.specs.Text.{named}
 use Rattle.com_draw_names.specs.declared.contexts.Born.{Born}
 use Rattle.com_draw_stories.specs.declared.speakers.Speaker.{Speaker}
-use Rattle.com_draw_names.specs.Failures.{failure_if, failure_text, has_failed}
+use Rattle.com_model.specs.Answers.{is_failure}
+use Rattle.com_draw_names.specs.Failures.{failure_if, failure_text}
 use Rattle.com_draw_names.specs.Names.{class_words, interface_words, object_text, place_at}
 use Rattle.com_draw_stories.specs.Phrases.{lane_at, lane_does, lane_fails, lane_named, lane_place}
 use Rattle.com_draw_stories.specs.Phrases.{lane_signed, object_fails, signed_fails}
@@ -22,7 +23,7 @@ use Rattle.com_draw_stories.specs.Phrases.{lane_signed, object_fails, signed_fai
 -- That a lane enters an apartment, once more where it is in one already, or why it cannot.
 abbrev pub init_story : Speaker → (home : ℕ) → (has_home : Bool) → HResult → List ℕ
 init_story s a has_home hr =
-    if has_failed hr then lane_fails s (codes " cannot enter an apartment") hr
+    if is_failure hr then lane_fails s (codes " cannot enter an apartment") hr
     else if has_home then lane_place s.lane (codes " enters ") a (codes " once more")
     else lane_place s.lane (codes " enters ") a []
 
@@ -52,7 +53,7 @@ made_story t l b class =
 -- That a lane makes an object of a class and where that lives, or why it cannot.
 abbrev pub create_story : Tables → Speaker → Born → Asked → HResult → List ℕ
 create_story t s b class hr =
-    if has_failed hr then unmade_story t s class hr else made_story t s.lane b class
+    if is_failure hr then unmade_story t s class hr else made_story t s.lane b class
 
 -- That a lane asks an object, or null, for an interface, and why that fails where it does.
 abbrev pub query_story : Tables → Speaker → (object : Option ℕ) → Asked → HResult → List ℕ
@@ -88,7 +89,7 @@ packed_story l p m o =
 abbrev pub marshal_story :
     Speaker → (packet : Option ℕ) → MarshalMode → (object : Option ℕ) → HResult → List ℕ
 marshal_story s p m o hr =
-    if has_failed hr then object_fails s (codes " cannot pack a reference to ") o [] hr
+    if is_failure hr then object_fails s (codes " cannot pack a reference to ") o [] hr
     else packed_story s.lane p m o
 
 -- That a lane unmarshals a reference to an object, and from which packet.
@@ -99,12 +100,12 @@ unpacked_story l p o =
 -- That a lane unmarshals a reference from a packet, or why it cannot.
 abbrev pub unmarshal_story : Speaker → (packet object : Option ℕ) → HResult → List ℕ
 unmarshal_story s p o hr =
-    if has_failed hr then lane_fails s (codes " cannot unpack a reference") hr else unpacked_story s.lane p o
+    if is_failure hr then lane_fails s (codes " cannot unpack a reference") hr else unpacked_story s.lane p o
 
 -- That a lane gives a packet up, or why it cannot.
 abbrev pub drop_story : Speaker → (packet : Option ℕ) → HResult → List ℕ
 drop_story s p hr =
-    if has_failed hr then lane_fails s (codes " cannot drop a packet") hr
+    if is_failure hr then lane_fails s (codes " cannot drop a packet") hr
     else lane_named s.lane (codes " drops packet ") (codes "pk") p
 
 -- How many bytes a lane puts into a packet buffer, and into which.
@@ -121,7 +122,7 @@ registered_story l g o =
 -- That a lane puts a reference into the global interface table, or why it cannot.
 abbrev pub register_story : Speaker → (cookie object : Option ℕ) → HResult → List ℕ
 register_story s g o hr =
-    if has_failed hr then object_fails s (codes " cannot put ") o (codes " into the global table") hr
+    if is_failure hr then object_fails s (codes " cannot put ") o (codes " into the global table") hr
     else registered_story s.lane g o
 
 -- That a lane takes a reference to an object from the global interface table, by which cookie.
@@ -132,12 +133,12 @@ got_story l g o =
 -- That a lane takes a reference from the global interface table by a cookie, or why it cannot.
 abbrev pub get_story : Speaker → (cookie : ℤ) → (object : Option ℕ) → HResult → List ℕ
 get_story s g o hr =
-    if has_failed hr then signed_fails s (codes " gets nothing by cookie ") g hr else got_story s.lane g o
+    if is_failure hr then signed_fails s (codes " gets nothing by cookie ") g hr else got_story s.lane g o
 
 -- That a lane revokes a cookie, or why it cannot.
 abbrev pub revoke_story : Speaker → (cookie : ℤ) → HResult → List ℕ
 revoke_story s g hr =
-    if has_failed hr then signed_fails s (codes " cannot revoke cookie ") g hr
+    if is_failure hr then signed_fails s (codes " cannot revoke cookie ") g hr
     else lane_signed s.lane (codes " revokes cookie ") g
 
 -- ---- the end of objects
@@ -149,7 +150,7 @@ cut_story l o = lane_named l (codes " cuts ") (codes "o") o ++ codes " off from 
 -- That a lane disconnects an object, which cuts it off from all other apartments, or why it cannot.
 abbrev pub disconnect_story : Speaker → (object : Option ℕ) → HResult → List ℕ
 disconnect_story s o hr =
-    if has_failed hr then object_fails s (codes " cannot disconnect ") o [] hr else cut_story s.lane o
+    if is_failure hr then object_fails s (codes " cannot disconnect ") o [] hr else cut_story s.lane o
 
 -- That nothing holds an object any more, and which lane ends it.
 abbrev pub final_story : (lane object : ℕ) → List ℕ

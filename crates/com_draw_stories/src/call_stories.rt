@@ -14,7 +14,7 @@ use crate::speakers::{Called, Entered, Speaker};
 use com_base::{ByteList, HResult, Memory, Value};
 use com_classes::Classes;
 use com_draw_names::{
-    Caller, has_failed, push_failure, push_later, push_object, push_place, push_shown_called,
+    Caller, LEAST_DELAY, push_failure, push_later, push_object, push_place, push_shown_called,
     push_shown_given, push_shown_method, push_signed, push_verb,
 };
 use com_draw_words::{push_link, push_number, push_word_and_number};
@@ -67,7 +67,7 @@ pub(crate) fn push_post(
 ) -> Result<(), Memory>
     ensures { OnOk result (out.new ≡ out.old ++ post_story speaker to word hr) }
 {
-    if has_failed(hr) {
+    if hr.is_failure() {
         return push_signed_fails(out, speaker, b" cannot send a word to lane ", to, hr);
     }
     push_sent(out, speaker.lane, to, word)
@@ -90,7 +90,7 @@ pub(crate) fn push_quit(
 ) -> Result<(), Memory>
     ensures { OnOk result (out.new ≡ out.old ++ quit_story speaker to hr) }
 {
-    if has_failed(hr) {
+    if hr.is_failure() {
         return push_signed_fails(out, speaker, b" cannot send a quit to lane ", to, hr);
     }
     push_told(out, speaker.lane, to)
@@ -302,7 +302,7 @@ fn push_outcome(
 ) -> Result<(), Memory>
     ensures { OnOk result (out.new ≡ out.old ++ outcome version hr value.now) }
 {
-    if has_failed(hr) {
+    if hr.is_failure() {
         return push_failure(out, version, hr);
     }
     push_shown_given(alloc, out, value)
@@ -352,12 +352,12 @@ pub(crate) fn push_back(
     push_outcome(alloc, out, speaker.version, hr, value)
 }
 
-// Appends when a call is sent again, by a filter's answer: at once below 100, and else after so
+// Appends when a call is sent again, by a filter's answer: at once below `LEAST_DELAY`, and else after so
 // many milliseconds.
 fn push_again_words(out: &mut ByteList, answer: i64) -> Result<(), Memory>
     ensures { OnOk result (out.new ≡ out.old ++ again_words answer) }
 {
-    if answer < 100 {
+    if answer < LEAST_DELAY {
         return out.push_all(b" again at once");
     }
     push_later(out, answer)

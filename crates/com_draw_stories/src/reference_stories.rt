@@ -16,8 +16,8 @@ use com_base::{ByteList, HResult, MarshalMode, Memory, RefValue};
 use com_body::Asked;
 use com_classes::Classes;
 use com_draw_names::{
-    Born, has_failed, push_failure, push_failure_if, push_named, push_object, push_place_at,
-    push_shown_class, push_shown_interface, push_signed,
+    Born, push_failure, push_failure_if, push_named, push_object, push_place_at, push_shown_class,
+    push_shown_interface, push_signed,
 };
 use com_draw_words::{push_number, push_word_and_number};
 
@@ -31,7 +31,7 @@ pub(crate) fn push_init(
 ) -> Result<(), Memory>
     ensures { OnOk result (out.new ≡ out.old ++ init_story speaker home has_home hr) }
 {
-    if has_failed(hr) {
+    if hr.is_failure() {
         return push_fails(out, speaker, b" cannot enter an apartment", hr);
     }
     if has_home {
@@ -111,7 +111,7 @@ pub(crate) fn push_create(
 ) -> Result<(), Memory>
     ensures { OnOk result (out.new ≡ out.old ++ create_story classes.now speaker born class.now hr) }
 {
-    if has_failed(hr) {
+    if hr.is_failure() {
         return push_unmade(out, classes, speaker, class, hr);
     }
     push_made(out, classes, speaker.lane, born, class)
@@ -197,7 +197,7 @@ pub(crate) fn push_marshal(
 ) -> Result<(), Memory>
     ensures { OnOk result (out.new ≡ out.old ++ marshal_story speaker packet mode object hr) }
 {
-    if has_failed(hr) {
+    if hr.is_failure() {
         return push_object_fails(
             out,
             speaker,
@@ -234,7 +234,7 @@ pub(crate) fn push_unmarshal(
 ) -> Result<(), Memory>
     ensures { OnOk result (out.new ≡ out.old ++ unmarshal_story speaker packet object hr) }
 {
-    if has_failed(hr) {
+    if hr.is_failure() {
         return push_fails(out, speaker, b" cannot unpack a reference", hr);
     }
     push_unpacked(out, speaker.lane, packet, object)
@@ -249,7 +249,7 @@ pub(crate) fn push_drop(
 ) -> Result<(), Memory>
     ensures { OnOk result (out.new ≡ out.old ++ drop_story speaker packet hr) }
 {
-    if has_failed(hr) {
+    if hr.is_failure() {
         return push_fails(out, speaker, b" cannot drop a packet", hr);
     }
     push_does_named(out, speaker.lane, b" drops packet ", b"pk", packet)
@@ -288,7 +288,7 @@ pub(crate) fn push_register(
 ) -> Result<(), Memory>
     ensures { OnOk result (out.new ≡ out.old ++ register_story speaker cookie object hr) }
 {
-    if has_failed(hr) {
+    if hr.is_failure() {
         return push_object_fails(
             out,
             speaker,
@@ -322,7 +322,7 @@ pub(crate) fn push_get(
 ) -> Result<(), Memory>
     ensures { OnOk result (out.new ≡ out.old ++ get_story speaker cookie object hr) }
 {
-    if has_failed(hr) {
+    if hr.is_failure() {
         return push_signed_fails(out, speaker, b" gets nothing by cookie ", cookie, hr);
     }
     push_got(out, speaker.lane, cookie, object)
@@ -337,7 +337,7 @@ pub(crate) fn push_revoke(
 ) -> Result<(), Memory>
     ensures { OnOk result (out.new ≡ out.old ++ revoke_story speaker cookie hr) }
 {
-    if has_failed(hr) {
+    if hr.is_failure() {
         return push_signed_fails(out, speaker, b" cannot revoke cookie ", cookie, hr);
     }
     push_does_signed(out, speaker.lane, b" revokes cookie ", cookie)
@@ -361,7 +361,7 @@ pub(crate) fn push_disconnect(
 ) -> Result<(), Memory>
     ensures { OnOk result (out.new ≡ out.old ++ disconnect_story speaker object hr) }
 {
-    if has_failed(hr) {
+    if hr.is_failure() {
         return push_object_fails(out, speaker, b" cannot disconnect ", object, b"", hr);
     }
     push_cut(out, speaker.lane, object)

@@ -3,7 +3,7 @@ use Rattle.std.proofs.Common.{List, None, Option, Some, codes, int_lt, pos, refl
 use Rattle.com_base.specs.declared.hresult.HResult.{HResult}
 use Rattle.com_base.specs.declared.value.Value.{Value}
 use Rattle.com_classes.specs.Tables.{Tables}
-use Rattle.com_draw_names.specs.Failures.{has_failed}
+use Rattle.com_model.specs.Answers.{is_failure}
 use Rattle.com_draw_names.specs.declared.contexts.Caller.{Caller}
 use Rattle.com_draw_stories.specs.Calls.{again_words, back_story, bound_story, call_of_lane, cancels_story, enter_story, entered_call, entered_method, filter_plain, filter_story, for_lane, leave_story, out_story, outcome, pending_story, post_story, pump_story, quit_story, refuse_story, retry_story, route_words, sends_again, sent_story, tick_story, told_story, took_story, type_reason, type_words, unwaited, verdict_story, waits_on}
 use Rattle.com_draw_stories.specs.declared.speakers.Called.{Called}
@@ -30,13 +30,13 @@ pub closed_sent_story : (lane : ℕ) (to_ : ℤ) (word : ℤ) → IsClosed (sent
 closed_sent_story l m w = both (both (closed_lane_signed l (said (codes " sends word ") refl) w) (said (codes " to L") refl)) (closed_signed m)
 
 pub closed_post_story : (s : Speaker) (to_ : ℤ) (word : ℤ) (hr : HResult) → IsClosed (post_story s to_ word hr)
-closed_post_story s m w hr = either (has_failed hr) (closed_signed_fails s (said (codes " cannot send a word to lane ") refl) m hr) (closed_sent_story s.lane m w)
+closed_post_story s m w hr = either (is_failure hr) (closed_signed_fails s (said (codes " cannot send a word to lane ") refl) m hr) (closed_sent_story s.lane m w)
 
 pub closed_told_story : (lane : ℕ) (to_ : ℤ) → IsClosed (told_story lane to_)
 closed_told_story l m = both (closed_lane_signed l (said (codes " tells L") refl) m) (said (codes " to end its pump") refl)
 
 pub closed_quit_story : (s : Speaker) (to_ : ℤ) (hr : HResult) → IsClosed (quit_story s to_ hr)
-closed_quit_story s m hr = either (has_failed hr) (closed_signed_fails s (said (codes " cannot send a quit to lane ") refl) m hr) (closed_told_story s.lane m)
+closed_quit_story s m hr = either (is_failure hr) (closed_signed_fails s (said (codes " cannot send a quit to lane ") refl) m hr) (closed_told_story s.lane m)
 
 pub closed_bound_story : (lane : ℕ) (bound : ℕ) → IsClosed (bound_story lane bound)
 closed_bound_story l n = both (closed_lane_at l (said (codes " pumps: it lets calls and words in, until ") refl) n) (said (codes " served") refl)
@@ -87,7 +87,7 @@ pub closed_enter_story : (t : Tables) (lane : ℕ) (c : Called) (b : Entered) �
 closed_enter_story t l c b = both (closed_entered_method t l c.caller b) (closed_entered_call l c b.call_type)
 
 pub closed_outcome : (version : ℕ) (hr : HResult) (v : Option Value) → IsClosed (outcome version hr v)
-closed_outcome version hr v = either (has_failed hr) (closed_failure_text version hr) (closed_shown_given v)
+closed_outcome version hr v = either (is_failure hr) (closed_failure_text version hr) (closed_shown_given v)
 
 pub closed_unwaited : (caller : Option Caller) → IsClosed (unwaited caller)
 closed_unwaited None = said (codes "; nobody waits for it") refl

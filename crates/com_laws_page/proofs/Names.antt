@@ -5,7 +5,8 @@ use Rattle.com_base.specs.declared.value.Value.{Value}
 use Rattle.com_classes.specs.Lookups.{method_at}
 use Rattle.com_classes.specs.Tables.{Tables}
 use Rattle.com_classes.specs.declared.interfaces.Method.{Method}
-use Rattle.com_draw_names.specs.Failures.{failure_if, failure_text, has_failed}
+use Rattle.com_model.specs.Answers.{is_failure}
+use Rattle.com_draw_names.specs.Failures.{failure_if, failure_text}
 use Rattle.com_draw_names.specs.Filters.{later_words, verdict_verb}
 use Rattle.com_draw_names.specs.Names.{object_text, place_at, place_text, shown_called, shown_method, shown_method_or}
 use Rattle.com_draw_names.specs.Values.{shown_given, shown_value, value_words}
@@ -21,7 +22,7 @@ pub closed_failure_text : (version : ℕ) (hr : HResult) → IsClosed (failure_t
 closed_failure_text version hr = both (said (codes ": ") refl) (closed_gloss version hr)
 
 pub closed_failure_if : (version : ℕ) (hr : HResult) → IsClosed (failure_if version hr)
-closed_failure_if version hr = either (has_failed hr) (closed_failure_text version hr) closed_none
+closed_failure_if version hr = either (is_failure hr) (closed_failure_text version hr) closed_none
 
 pub closed_place_text : (a : ℕ) → IsClosed (place_text a)
 closed_place_text a = either (a == 0) (said (codes "NTA a0") refl) (either (a == 1) (said (codes "MTA a1") refl) (either (a == 2) (said (codes "host STA a2") refl) (numbered (said (codes "STA a") refl) a)))

@@ -1,6 +1,6 @@
 use Rattle.std.proofs.Common.{◌≡◌, false}
-use Rattle.com_draw_names.specs.Failures.{has_failed}
+use Rattle.com_model.specs.Answers.{is_failure}
 use Rattle.com_draw_stories.proofs.reference_stories.push_drop.Goals as goal
 
 pub returns : goal.returns
-returns c = let t : has_failed c.args.hr ≡ false = cc in rw t c.push_does_named.ensures
+returns c = let t : is_failure c.args.hr ≡ false = cc in rw t c.push_does_named.ensures

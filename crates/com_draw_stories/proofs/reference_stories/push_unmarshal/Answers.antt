@@ -1,6 +1,6 @@
 use Rattle.std.proofs.Common.{◌≡◌, true}
-use Rattle.com_draw_names.specs.Failures.{has_failed}
+use Rattle.com_model.specs.Answers.{is_failure}
 use Rattle.com_draw_stories.proofs.reference_stories.push_unmarshal.Goals as goal
 
-pub returns-then-has_failed : goal.returns-then-has_failed
-returns-then-has_failed c = let t : has_failed c.args.hr ≡ true = cc in rw t c.push_fails.ensures
+pub returns-then-is_failure : goal.returns-then-is_failure
+returns-then-is_failure c = let t : is_failure c.args.hr ≡ true = cc in rw t c.push_fails.ensures
