@@ -1,6 +1,7 @@
 -- The boxes of homes, of what is open, and of the lives of objects.
 use Rattle.std.specs.Prelude.{ℕ, ◌+◌, ◌*◌, Bool, true, false, nat_le, if◌then◌else◌, List, [], ◌∷◌, ◌++◌}
 use Rattle.std.specs.Prelude.{Option, Some, None, length}
+use Rattle.com_base.specs.declared.apartments.TheConstants.{FIRST_STA}
 use Rattle.com_draw_state.specs.declared.lanes.Home.{Home}
 use Rattle.com_draw_state.specs.declared.lanes.Lane.{Lane}
 use Rattle.com_draw_state.specs.declared.stacks.Manner.{Manner}
@@ -151,7 +152,7 @@ home_in (Some row) = row.home
 -- With an STA that a thread made its objects are cut off. The other apartments live for the whole run.
 abbrev pub cut_boxes : Start → (apartment : ℕ) → State → List ℕ
 cut_boxes here a b =
-    if nat_le 3 a then track_boxes here (objects_lane b) foot.Inner (chosen.LiveIn a) 0 b.tracks else []
+    if nat_le FIRST_STA a then track_boxes here (objects_lane b) foot.Inner (chosen.LiveIn a) 0 b.tracks else []
 
 -- The box of the innermost.
 abbrev pub innermost_box : Start → (lane : ℕ) → (depth : ℕ) → Option Opening → List ℕ

@@ -1,5 +1,6 @@
 -- What an entry changes of a picture's board.
 use Rattle.std.specs.Prelude.{ℕ, Bool, true, false, nat_le, if◌then◌else◌, Option, Some, None, is_some, map}
+use Rattle.com_base.specs.declared.apartments.TheConstants.{FIRST_STA}
 use Rattle.com_model.specs.declared.deeds.Entry.{Entry}
 use Rattle.com_draw_state.specs.declared.lanes.Lane.{Lane}
 use Rattle.com_draw_state.specs.declared.stacks.Start.{Start}
@@ -27,7 +28,7 @@ opened_on here l (opens.Level w) b =
 -- row on they are drawn so.
 abbrev pub left_on : Start → (lane apartment : ℕ) → State → State
 left_on here l a b =
-    if nat_le 3 a
+    if nat_le FIRST_STA a
     then with_tracks (map (cut_of_apartment a (below here)) b.tracks)
     (with_lanes (with_lane (homed None) l b.lanes) b)
     else with_lanes (with_lane (homed None) l b.lanes) b

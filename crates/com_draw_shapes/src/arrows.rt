@@ -1,5 +1,6 @@
 //! The arrow of an entry, and the mark of the object that it touches.
 ghost use Rattle.std.specs.Prelude.{◌≡◌, ◌<◌, ◌^◌, ◌++◌, IfSome, OnOk};
+ghost use Rattle.com_draw_state.specs.declared.tracks.TheConstants.{TRACKS};
 ghost use Rattle.com_draw_shapes.specs.Arrows.{called_arrow, pointing_text, touched_text, touch_on};
 
 use crate::boxes::objects_lane;
@@ -67,7 +68,7 @@ pub fn push_pointing(
 
 // Appends the mark on the track of this number, in the lane of the objects, where there is one.
 fn push_touch_on(out: &mut ByteList, lane: u32, number: Option<u32>) -> Result<(), Memory>
-    requires { IfSome number (λ k. k < 16) }
+    requires { IfSome number (λ k. k < TRACKS) }
     ensures { OnOk result (out.new ≡ out.old ++ touch_on lane number) }
 {
     match number {

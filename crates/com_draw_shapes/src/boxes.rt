@@ -2,6 +2,8 @@
 ghost use Rattle.std.specs.Prelude.{◌≡◌, ◌<◌, ◌≤◌, ◌^◌, ◌++◌, OnOk, length};
 ghost use Rattle.com_draw_state.specs.Lanes.{lane_at};
 ghost use Rattle.com_draw_state.specs.Stacks.{innermost};
+ghost use Rattle.com_draw_state.specs.declared.tracks.TheConstants.{TRACKS};
+ghost use Rattle.com_draw_words.specs.declared.limits.TheConstants.{ROWS};
 ghost use Rattle.com_draw_shapes.specs.Boxes.{chosen_track, closing_boxes, cut_boxes, home_box, home_boxes};
 ghost use Rattle.com_draw_shapes.specs.Boxes.{home_in, hue_in, inner_of, innermost_box, innermost_boxes};
 ghost use Rattle.com_draw_shapes.specs.Boxes.{is_chosen, kind_of, life_boxes, life_of, objects_lane};
@@ -10,7 +12,7 @@ ghost use Rattle.com_draw_shapes.specs.Boxes.{track_boxes};
 
 use crate::effects::Closing;
 use crate::places::{is_up, top_in};
-use com_base::{ByteList, Memory};
+use com_base::{ByteList, FIRST_STA, Memory};
 use com_draw_state::{
     Board, Home, Manner, Opened, Opening, Openings, Start, Track, is_live_in, is_live_of, is_of,
 };
@@ -55,7 +57,7 @@ pub(crate) fn push_home(
     foot: Foot,
     home: Option<Home>,
 ) -> Result<(), Memory>
-    requires { here.row < 40 }
+    requires { here.row < ROWS }
     ensures { OnOk result (out.new ≡ out.old ++ home_boxes here lane foot home) }
 {
     match home {
@@ -134,7 +136,7 @@ fn push_opening(
     depth: u32,
     opening: &Opening,
 ) -> Result<(), Memory>
-    requires { here.row < 40 }
+    requires { here.row < ROWS }
     ensures { OnOk result (out.new ≡ out.old ++ opening_text here lane foot depth opening.now) }
 {
     push_box(out, opening_box(here, lane, foot, depth, opening))
@@ -148,7 +150,7 @@ pub(crate) fn push_openings(
     foot: Foot,
     openings: &[Opening],
 ) -> Result<(), Memory>
-    requires here { here.row < 40 }
+    requires here { here.row < ROWS }
     requires few { length openings.now < 2 ^ 31 }
     ensures { OnOk result (out.new ≡ out.old ++ opening_boxes here lane foot 1 openings.now) }
 {
@@ -219,7 +221,7 @@ fn push_life(
     number: u32,
     life: Option<Track>,
 ) -> Result<(), Memory>
-    requires here { here.row < 40 }
+    requires here { here.row < ROWS }
     requires number { number < 2 ^ 31 }
     ensures { OnOk result (out.new ≡ out.old ++ life_boxes here lane foot number life) }
 {
@@ -238,8 +240,8 @@ pub(crate) fn push_tracks(
     chosen: Chosen,
     tracks: &[Option<Track>],
 ) -> Result<(), Memory>
-    requires here { here.row < 40 }
-    requires few { length tracks.now ≤ 16 }
+    requires here { here.row < ROWS }
+    requires few { length tracks.now ≤ TRACKS }
     ensures { OnOk result (out.new ≡ out.old ++ track_boxes here lane foot chosen 0 tracks.now) }
 {
     let mut rest = tracks;
@@ -263,7 +265,7 @@ pub fn objects_lane(board: &Board) -> u32
 
 // Appends the boxes of chosen tracks, which end here.
 fn push_lives(out: &mut ByteList, here: Start, chosen: Chosen, board: &Board) -> Result<(), Memory>
-    requires { here.row < 40 }
+    requires { here.row < ROWS }
     ensures { OnOk result (out.new ≡ out.old
         ++ track_boxes here (objects_lane board.now) Foot.Inner chosen 0 board.now.tracks) }
 {
@@ -280,10 +282,10 @@ fn push_lives(out: &mut ByteList, here: Start, chosen: Chosen, board: &Board) ->
 
 // Appends the boxes of the objects that are cut off with an apartment.
 fn push_cut(out: &mut ByteList, here: Start, apartment: u32, board: &Board) -> Result<(), Memory>
-    requires { here.row < 40 }
+    requires { here.row < ROWS }
     ensures { OnOk result (out.new ≡ out.old ++ cut_boxes here apartment board.now) }
 {
-    if apartment < 3 {
+    if apartment < FIRST_STA {
         return Ok(());
     }
     push_lives(out, here, Chosen::LiveIn(apartment), board)
@@ -307,7 +309,7 @@ fn push_left(
     apartment: u32,
     board: &Board,
 ) -> Result<(), Memory>
-    requires { here.row < 40 }
+    requires { here.row < ROWS }
     ensures { OnOk result (out.new ≡ out.old
         ++ home_boxes here lane Foot.Inner (home_in (lane_at board.now.lanes lane))
         ++ cut_boxes here apartment board.now) }
@@ -318,7 +320,7 @@ fn push_left(
 
 // Appends the box of what is innermost in a lane.
 fn push_innermost(out: &mut ByteList, here: Start, lane: u32, board: &Board) -> Result<(), Memory>
-    requires { here.row < 40 }
+    requires { here.row < ROWS }
     ensures { OnOk result (out.new ≡ out.old ++ innermost_boxes here lane (lane_at board.now.lanes lane)) }
 {
     match board.lane(lane) {
@@ -329,7 +331,7 @@ fn push_innermost(out: &mut ByteList, here: Start, lane: u32, board: &Board) -> 
 
 // Appends the box of the last of these openings, which are all of a lane.
 fn push_last(out: &mut ByteList, here: Start, lane: u32, openings: &Openings) -> Result<(), Memory>
-    requires { here.row < 40 }
+    requires { here.row < ROWS }
     ensures { OnOk result (out.new ≡ out.old
         ++ innermost_box here lane (length openings.now) (innermost openings.now)) }
 {
@@ -349,7 +351,7 @@ pub fn push_closing(
     closing: Closing,
     board: &Board,
 ) -> Result<(), Memory>
-    requires { here.row < 40 }
+    requires { here.row < ROWS }
     ensures { OnOk result (out.new ≡ out.old ++ closing_boxes here lane closing board.now) }
 {
     match closing {

@@ -1,11 +1,12 @@
 //! What an entry changes of a picture's board.
 ghost use Rattle.std.specs.Prelude.{◌≡◌, ◌<◌, OnOk};
+ghost use Rattle.com_draw_words.specs.declared.limits.TheConstants.{ROWS};
 ghost use Rattle.com_draw_shapes.specs.Changes.{changed, closed_on, cut_on, left_on, opened_on, own_home};
 ghost use Rattle.com_draw_state.specs.Lanes.{lane_at};
 
 use crate::effects::{Closing, Opens, closed_by, opened_by};
 use crate::places::below;
-use com_base::Memory;
+use com_base::{FIRST_STA, Memory};
 use com_draw_state::{Board, Home, Start, Track};
 use com_model::Entry;
 
@@ -37,11 +38,11 @@ fn open(board: &mut Board, here: Start, lane: u32, opens: Opens) -> Result<(), M
 
 // A lane leaves its home, and with an STA that a thread made the objects of that are cut off.
 fn leave(board: &mut Board, here: Start, lane: u32, apartment: u32)
-    requires { here.row < 40 }
+    requires { here.row < ROWS }
     ensures { board.new ≡ left_on here lane apartment board.old }
 {
     board.settle(lane, None);
-    if apartment < 3 {
+    if apartment < FIRST_STA {
         return;
     }
     board.cut_apartment(apartment, below(here));
@@ -49,7 +50,7 @@ fn leave(board: &mut Board, here: Start, lane: u32, apartment: u32)
 
 // An object is cut off.
 fn cut(board: &mut Board, here: Start, object: u32)
-    requires { here.row < 40 }
+    requires { here.row < ROWS }
     ensures { board.new ≡ cut_on here object board.old }
 {
     board.cut_object(object, below(here));
@@ -57,7 +58,7 @@ fn cut(board: &mut Board, here: Start, object: u32)
 
 // What closes in a lane.
 fn close(board: &mut Board, here: Start, lane: u32, closing: Closing)
-    requires { here.row < 40 }
+    requires { here.row < ROWS }
     ensures { board.new ≡ closed_on here lane closing board.old }
 {
     match closing {

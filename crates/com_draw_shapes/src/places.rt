@@ -1,5 +1,6 @@
 //! The rows of a page, and its sections of 40 rows.
 ghost use Rattle.std.specs.Prelude.{◌≡◌, ◌<◌, ◌≤◌};
+ghost use Rattle.com_draw_words.specs.declared.limits.TheConstants.{ROWS};
 ghost use Rattle.com_draw_shapes.specs.Places.{below, is_up, opens_section, row_at, start_of, top_in};
 
 use com_draw_state::Start;
@@ -9,7 +10,7 @@ use com_draw_words::{LIMIT, ROWS};
 pub fn row_at(row: u64) -> Start
     requires { 1 ≤ row }
     ensures value { result ≡ row_at row }
-    ensures few { result.row < 40 }
+    ensures few { result.row < ROWS }
 {
     Start {
         section: (row - 1) / ROWS as u64 + 1,
@@ -30,7 +31,7 @@ pub fn opens_section(row: u64) -> bool
 pub fn start_of(place: u64) -> Start
     requires { 1 ≤ place }
     ensures value { result ≡ start_of place }
-    ensures few { result.row < 40 }
+    ensures few { result.row < ROWS }
 {
     if place <= LIMIT {
         return row_at(place);
@@ -61,7 +62,7 @@ pub(crate) fn is_up(here: Start, start: Start) -> bool
 
 // The row below.
 pub(crate) fn below(here: Start) -> Start
-    requires { here.row < 40 }
+    requires { here.row < ROWS }
     ensures { result ≡ below here }
 {
     Start {

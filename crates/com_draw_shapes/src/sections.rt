@@ -1,6 +1,7 @@
 //! The fronts and the ends of sections.
 ghost use Rattle.std.specs.Prelude.{◌≡◌, ◌<◌, ◌≤◌, ◌^◌, ◌++◌, [], OnOk, length};
 ghost use Rattle.com_model.specs.Lists.{is_member};
+ghost use Rattle.com_draw_words.specs.declared.limits.TheConstants.{ROWS};
 ghost use Rattle.com_draw_shapes.specs.Sections.{back_of_section, boxes_below, columns, foot_in};
 ghost use Rattle.com_draw_shapes.specs.Sections.{front_of_section, lane_boxes, lanes_boxes, row_begins};
 ghost use Rattle.com_draw_shapes.specs.Sections.{row_before};
@@ -74,7 +75,7 @@ fn push_lane(
     number: u32,
     lane: &Lane,
 ) -> Result<(), Memory>
-    requires { here.row < 40 }
+    requires { here.row < ROWS }
     ensures { OnOk result (out.new ≡ out.old ++ lane_boxes here cycle.now number lane.now) }
 {
     push_home(out, here, number, Foot::Down, lane.home)?;
@@ -89,7 +90,7 @@ fn push_lane(
 
 // Appends the boxes of all lanes.
 fn push_lanes(out: &mut ByteList, here: Start, cycle: &[u32], lanes: &[Lane]) -> Result<(), Memory>
-    requires here { here.row < 40 }
+    requires here { here.row < ROWS }
     requires few { length lanes.now ≤ 64 }
     ensures { OnOk result (out.new ≡ out.old ++ lanes_boxes here cycle.now 1 lanes.now) }
 {
@@ -112,7 +113,7 @@ pub fn close_section(
     cycle: &[u32],
     board: &Board,
 ) -> Result<(), Memory>
-    requires { here.row < 40 }
+    requires { here.row < ROWS }
     ensures { OnOk result (out.new ≡ out.old ++ back_of_section here cycle.now board.now) }
 {
     push_section_back(out)?;
@@ -123,7 +124,7 @@ pub fn close_section(
 // Appends the boxes of all that goes on below the section: those of lanes, and those of objects.
 #[tactic(auto, unfolding(crate::specs::Sections::boxes_below))]
 fn push_below(out: &mut ByteList, here: Start, cycle: &[u32], board: &Board) -> Result<(), Memory>
-    requires { here.row < 40 }
+    requires { here.row < ROWS }
     ensures { OnOk result (out.new ≡ out.old ++ boxes_below here cycle.now board.now) }
 {
     push_lanes(out, here, cycle, board.lanes())?;

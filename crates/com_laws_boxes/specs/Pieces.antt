@@ -1,6 +1,7 @@
 -- A page in pieces: its boxes, and the bytes between them.
 use Rattle.std.specs.Prelude.{ℕ, ◌+◌, ◌-◌, ◌==◌, nat_le, if◌then◌else◌, List, [], ◌∷◌, ◌++◌, Option, Some, None}
 use Rattle.std.specs.Prelude.{length}
+use Rattle.com_base.specs.declared.apartments.TheConstants.{FIRST_STA}
 use Rattle.com_model.specs.declared.deeds.Entry.{Entry}
 use Rattle.com_model.specs.declared.scenario.Scenario.{Scenario}
 use Rattle.com_waits.specs.declared.reasons.Wait.{Wait}
@@ -95,7 +96,7 @@ section_boxes here cycle b =
 
 abbrev pub lives_cut : Start → (apartment : ℕ) → State → List Placed
 lives_cut here a b =
-    if nat_le 3 a then lives here (objects_lane b) foot.Inner (chosen.LiveIn a) 0 b.tracks else []
+    if nat_le FIRST_STA a then lives here (objects_lane b) foot.Inner (chosen.LiveIn a) 0 b.tracks else []
 
 -- What an entry closes in its lane.
 abbrev pub boxes_closed : Start → (lane : ℕ) → Closing → State → List Placed
