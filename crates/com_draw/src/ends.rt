@@ -1,5 +1,6 @@
 //! What stands behind the entries of a page.
 ghost use Rattle.std.specs.Prelude.{◌≡◌, ◌+◌, ◌<◌, ◌≤◌, ◌^◌, ◌++◌, OnOk, length};
+ghost use Rattle.com_draw_words.specs.declared.limits.TheConstants.{LIMIT};
 ghost use Rattle.com_draw.specs.Ends.{all_items, event_item, event_items, event_styles, footer_text, gap_row};
 ghost use Rattle.com_draw.specs.Ends.{items_text, last_back, last_rows, last_styles, list_text, reason_item};
 ghost use Rattle.com_draw.specs.Ends.{reason_items, report_part, ring_item, rows_of, said_text, styles_text, told_text};
@@ -25,7 +26,7 @@ use std::alloc::Global;
 // How many rows there are behind so many entries.
 fn rows_of(entries: u64) -> u64
     ensures value { result ≡ rows_of entries }
-    ensures few { result ≤ 5001 }
+    ensures few { result ≤ LIMIT + 1 }
 {
     if entries <= LIMIT { entries } else { LIMIT + 1 }
 }

@@ -1,5 +1,6 @@
 //! Why a history is stuck: a row for each lane that waits.
 ghost use Rattle.std.specs.Prelude.{◌≡◌, ◌+◌, ◌<◌, ◌≤◌, ◌^◌, ◌++◌, IfOk, OnOk, length};
+ghost use Rattle.com_draw_words.specs.declared.limits.TheConstants.{LIMIT};
 ghost use Rattle.com_draw.specs.Reasons.{all_labelled, arrow_to, reason_arrow, reason_drawing, reason_label};
 ghost use Rattle.com_draw.specs.Reasons.{reason_labelled, reason_lead, reason_row, reason_rows};
 ghost use Rattle.com_draw.specs.Reasons.{reason_story, reason_words, ring_kind};
@@ -198,7 +199,7 @@ pub(crate) fn push_rows(
     waits: &[Wait],
 ) -> Result<(), Memory>
     requires first { 1 ≤ first }
-    requires few { first ≤ 5002 }
+    requires few { first ≤ LIMIT + 2 }
     ensures { OnOk result (out.new ≡ out.old ++ reason_rows first cycle.now board.now waits.now) }
 {
     let mut rest = waits;
