@@ -2,3 +2,4 @@ pub mod CutFaults
 pub mod Behind
 pub mod Found
 pub mod Missed
+pub mod Iids

@@ -11,6 +11,7 @@ use Rattle.com_read_operands.specs.declared.faults.TheConstants.Fault.{UNEXPECTE
 use Rattle.com_read_operands.specs.Reading.{◌>>=◌, fault_at, word_at, end_at}
 use Rattle.com_read_operands.specs.Naming.{name_at}
 use Rattle.com_read_operands.specs.Literals.{guid_at, guid_of}
+use Rattle.com_laws_sources.specs.Sources.{point_iid}
 use Rattle.com_points.specs.declared.source_text.heads.Cut.{Cut}
 use Rattle.com_points.specs.declared.source_text.heads.Seen.{Seen}
 
@@ -47,15 +48,16 @@ cut_of line =
 
 -- ---- what the lines above say
 
-abbrev pub is_point_iid : Option Guid → Bool
-is_point_iid None = false
-is_point_iid (Some g) =
-    (g.data1 == 0x5C0B0030) && (g.data2 == 0) && (g.data3 == 0x4000)
-    && bytes_eq g.data4 (0x80 ∷ 0 ∷ 0 ∷ 0 ∷ 0 ∷ 0 ∷ 0 ∷ 1 ∷ [])
+-- Whether there is a GUID, and it is the IID of a source's interface.
+abbrev pub names_point : Option Guid → Bool
+names_point None = false
+names_point (Some g) =
+    (g.data1 == point_iid.data1) && (g.data2 == point_iid.data2) && (g.data3 == point_iid.data3)
+    && bytes_eq g.data4 point_iid.data4
 
 abbrev pub is_point_guid : Option WordAt → Bool
 is_point_guid None = false
-is_point_guid (Some w) = is_point_iid (guid_of w.bytes)
+is_point_guid (Some w) = names_point (guid_of w.bytes)
 
 -- Whether a line declares an interface with the name or the IID of a source's interface.
 abbrev pub declares_point : List WordAt → Bool

@@ -12,7 +12,7 @@ use Rattle.com_classes.specs.declared.interfaces.Interface.{Interface}
 use Rattle.com_classes.specs.Lookups.{body_at}
 use Rattle.com_laws_sources.specs.Bodies.{e_pointer, no_connection, int, register, leave_with}
 use Rattle.com_laws_sources.specs.Bodies.{advise_body, unadvise_body, fire_body}
-use Rattle.com_laws_sources.specs.Sources.{IsPoint, IsStaModel}
+use Rattle.com_laws_sources.specs.Sources.{IsPoint, IsStaModel, advise, fire, unadvise}
 
 -- Null is refused, and the new cookie is one more than the last one.
 abbrev pub advise_head : List Stmt
@@ -35,11 +35,11 @@ fire_head = stmt.Load 4 4 ∷ stmt.Set 5 (int 0) ∷ stmt.Set 6 (int 0) ∷ []
 abbrev pub are_own_bodies : ℕ → List MethodBody → Bool
 are_own_bodies iface [] = true
 are_own_bodies iface (b ∷ bs) =
-    if not (b.iface == iface) || nat_lt 2 b.method then false else are_own_bodies iface bs
+    if not (b.iface == iface) || nat_lt fire b.method then false else are_own_bodies iface bs
 
 -- What is looked at in a class whose one interface is this one.
 abbrev pub Looks : Tables → (class : ℕ) → Class → (iface : ℕ) → Interface → Type 0
 Looks t class k i p =
     IsStaModel k.model × (k.native ≡ native.Bodies) × IsPoint p × (are_own_bodies i k.bodies ≡ true)
-    × (body_at t class i 0 ≡ Some advise_body) × (body_at t class i 1 ≡ Some unadvise_body)
-    × (body_at t class i 2 ≡ Some fire_body)
+    × (body_at t class i advise ≡ Some advise_body) × (body_at t class i unadvise ≡ Some unadvise_body)
+    × (body_at t class i fire ≡ Some fire_body)

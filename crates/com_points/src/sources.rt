@@ -5,6 +5,7 @@ ghost use Rattle.com_classes.specs.Lookups.{body_at};
 ghost use Rattle.com_laws_sources.specs.Bodies.{advise_body, unadvise_body, fire_body};
 ghost use Rattle.com_laws_sources.specs.Sources.{IsPoint, IsSource, IsStaModel, point_iid, point_methods};
 ghost use Rattle.com_points.specs.SourceHeads.{Looks, are_own_bodies};
+ghost use Rattle.com_points.specs.declared.sources.TheConstants.{ADVISE, FIRE, UNADVISE};
 
 mod bodies;
 mod shapes;
@@ -15,6 +16,13 @@ use com_body::Native;
 use com_classes::{Class, Classes, Interface, Method, MethodBody, ThreadingModel};
 use com_model::Scenario;
 
+/// The IID of a source's interface.
+pub(crate) const POINT_IID: Guid = Guid {
+    data1: 0x5C0B_0030,
+    data2: 0x0000,
+    data3: 0x4000,
+    data4: [0x80, 0x00, 0x00, 0x00, 0x00, 0x00, 0x00, 0x01],
+};
 /// The number of the method `advise` in a source's interface.
 pub const ADVISE: u16 = 0;
 /// The number of the method `unadvise`.
@@ -99,13 +107,10 @@ fn is_point(interface: &Interface) -> bool
 }
 
 // Whether an IID is that of a source's interface.
-fn is_point_iid(iid: Guid) -> bool
+pub(crate) fn is_point_iid(iid: Guid) -> bool
     ensures { IsTrue result ↔ iid ≡ point_iid }
 {
-    iid.data1 == 0x5C0B_0030
-        && iid.data2 == 0
-        && iid.data3 == 0x4000
-        && iid.data4.as_slice() == [0x80, 0, 0, 0, 0, 0, 0, 1].as_slice()
+    iid == POINT_IID
 }
 
 // Whether these are the three methods of a source's interface, in their order.
@@ -167,7 +172,7 @@ fn are_own_bodies(bodies: &[MethodBody], iface: u16) -> bool
 
 // Whether a class gives the body of `advise` for the first method of this interface.
 fn has_advise(classes: &Classes, class: u32, iface: u16) -> bool
-    ensures { IsTrue result ↔ body_at classes.now class iface 0 ≡ Some advise_body }
+    ensures { IsTrue result ↔ body_at classes.now class iface ADVISE ≡ Some advise_body }
 {
     match classes.body(class, iface, ADVISE) {
         None => false,
@@ -177,7 +182,7 @@ fn has_advise(classes: &Classes, class: u32, iface: u16) -> bool
 
 // Whether a class gives the body of `unadvise` for the second method of this interface.
 fn has_unadvise(classes: &Classes, class: u32, iface: u16) -> bool
-    ensures { IsTrue result ↔ body_at classes.now class iface 1 ≡ Some unadvise_body }
+    ensures { IsTrue result ↔ body_at classes.now class iface UNADVISE ≡ Some unadvise_body }
 {
     match classes.body(class, iface, UNADVISE) {
         None => false,
@@ -187,7 +192,7 @@ fn has_unadvise(classes: &Classes, class: u32, iface: u16) -> bool
 
 // Whether a class gives the body of `fire` for the third method of this interface.
 fn has_fire(classes: &Classes, class: u32, iface: u16) -> bool
-    ensures { IsTrue result ↔ body_at classes.now class iface 2 ≡ Some fire_body }
+    ensures { IsTrue result ↔ body_at classes.now class iface FIRE ≡ Some fire_body }
 {
     match classes.body(class, iface, FIRE) {
         None => false,

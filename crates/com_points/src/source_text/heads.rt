@@ -4,9 +4,10 @@ ghost use Rattle.std.specs.Prelude.{◌≡◌, IfOk, OnErr, slice_get};
 ghost use Rattle.com_read_operands.specs.declared.faults.ScenarioError.TheVariants as errors;
 ghost use Rattle.com_read_operands.specs.Reading.{Gives};
 ghost use Rattle.com_points.specs.Heads.{IsCut, is_text, is_source_line, model_at, cut_of};
-ghost use Rattle.com_points.specs.Heads.{is_point_iid, is_point_guid, declares_point, nothing_seen};
+ghost use Rattle.com_points.specs.Heads.{names_point, is_point_guid, declares_point, nothing_seen};
 ghost use Rattle.com_points.specs.Heads.{seen_behind, is_taken};
 
+use crate::sources::is_point_iid;
 use com_base::{Guid, Memory};
 use com_read_operands::{Fault, ScenarioError, end, fault, guid, guid_of, name, word};
 use com_text::Word;
@@ -105,18 +106,14 @@ pub(crate) fn cut_of(line: &[Word]) -> Result<Option<Cut>, Memory>
     }
 }
 
-// The IID of a source's interface.
-fn is_point_iid(guid: Option<Guid>) -> bool
-    ensures { result ≡ is_point_iid guid }
+// Whether there is a GUID, and it is the IID of a source's interface.
+#[tactic(auto, using(crate::proofs::Iids::iid_told))]
+fn names_point(guid: Option<Guid>) -> bool
+    ensures { result ≡ names_point guid }
 {
     match guid {
         None => false,
-        Some(guid) => {
-            guid.data1 == 0x5C0B_0030
-                && guid.data2 == 0
-                && guid.data3 == 0x4000
-                && guid.data4.as_slice() == [0x80, 0, 0, 0, 0, 0, 0, 1].as_slice()
-        }
+        Some(guid) => is_point_iid(guid),
     }
 }
 
@@ -133,7 +130,7 @@ fn is_point_guid(line: &[Word], index: usize) -> bool
 {
     match line.get(index) {
         None => false,
-        Some(word) => is_point_iid(guid_of(word.bytes)),
+        Some(word) => names_point(guid_of(word.bytes)),
     }
 }
 
