@@ -4,6 +4,7 @@
 #![tactic(auto)]
 
 ghost use Rattle.std.specs.Prelude.{◌≡◌, ◌+◌, ◌<◌, ◌^◌, IfOk, OnOk, length, reverse, vec_len};
+ghost use Rattle.com_base.specs.declared.limits.TheConstants.{CLASS_LIMIT};
 ghost use Rattle.com_model.specs.declared.scenario.Scenario.{Scenario};
 ghost use Rattle.com_deliveries.specs.Book.{empty, goes_on};
 ghost use Rattle.com_deliveries.specs.Delivered.{AreDeliveries};
@@ -50,7 +51,7 @@ pub fn source_table(alloc: Global, scenario: &Scenario) -> Result<Vec<Option<u16
 // Takes the next class up.
 #[tactic(auto, using(crate::proofs::Listing::upto_next))]
 fn add_class(table: &mut Vec<Option<u16>>, scenario: &Scenario) -> Result<(), Memory>
-    requires { vec_len table.old < 64 }
+    requires { vec_len table.old < CLASS_LIMIT }
     ensures long { OnOk result (vec_len table.new ≡ vec_len table.old + 1) }
     ensures upto { OnOk result (Upto scenario.now table.old.items → Upto scenario.now table.new.items) }
 {
