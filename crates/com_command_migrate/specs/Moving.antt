@@ -5,12 +5,13 @@ use Rattle.com_model.specs.declared.scenario.Scenario.{Scenario}
 use Rattle.com_model.specs.Ends.{ended_as, report, text}
 use Rattle.com_model.specs.Rules.{legal}
 use Rattle.com_model.specs.Text.{history_text, report_text}
+use Rattle.com_command_migrate.specs.declared.writing.TheConstants.{VERSION}
 use Rattle.com_check.specs.declared.agreement.traces.Agreed.{Agreed}
 use Rattle.com_laws_versions.specs.Moved.{moved}
 
 -- Its lines and its report.
 abbrev pub trace_text : Agreed → List ℕ
-trace_text a = history_text 2 (reverse a.history) ++ report_text a.counts (length a.history) a.clock a.ended
+trace_text a = history_text VERSION (reverse a.history) ++ report_text a.counts (length a.history) a.clock a.ended
 
 -- It is legal for the scenario in version 2 and ends there in the same way; it has not as many entries as a
 -- history of version 1 may have; and what is written is its text and its report in version 2.

@@ -8,7 +8,7 @@ ghost use Rattle.com_command_migrate.specs.Answers.{IsMoved, IsMovedBy};
 ghost use Rattle.com_command_migrate.specs.Inputs.{IsShort};
 
 use crate::inputs::Moving;
-use crate::writing::push_trace;
+use crate::writing::{VERSION, push_trace};
 use com_base::{ByteList, Memory};
 use com_check::{Trace, read_trace};
 use com_model::Scenario;
@@ -51,7 +51,7 @@ fn print_scenario(alloc: Global, scenario: Scenario) -> Result<(Scenario, ByteLi
 {
     let version = scenario.version;
     let mut scenario = scenario;
-    scenario.version = 2;
+    scenario.version = VERSION;
     let text = print(alloc, &scenario)?;
     scenario.version = version;
     Ok((scenario, text))

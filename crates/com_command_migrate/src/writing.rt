@@ -1,6 +1,7 @@
 //! Writing a history's lines and its report.
 ghost use Rattle.std.specs.Prelude.{◌≡◌, ◌++◌, OnOk, reverse};
 ghost use Rattle.com_model.specs.Text.{history_text};
+ghost use Rattle.com_command_migrate.specs.declared.writing.TheConstants.{VERSION};
 ghost use Rattle.com_command_migrate.specs.Moving.{trace_text};
 
 use com_base::{ByteList, Memory};
@@ -9,8 +10,8 @@ use com_model::Entry;
 use com_report::{line, report};
 use std::alloc::Global;
 
-// The version of the language in which it is written.
-const VERSION: u8 = 2;
+// The version of the language to which a scenario and its history are moved.
+pub(crate) const VERSION: u8 = 2;
 
 /// Puts the lines of a history behind a text, and its report, as version 2 of the language writes them: each
 /// HRESULT as eight upper-case hexadecimal digits. The only error is want of memory.
@@ -30,7 +31,7 @@ pub fn push_trace(alloc: Global, agreed: &Agreed, out: &mut ByteList) -> Result<
 
 // Puts the lines of entries, in the order of their making, behind a text.
 fn push_lines(alloc: Global, history: &[Entry], out: &mut ByteList) -> Result<(), Memory>
-    ensures { OnOk result (out.new ≡ out.old ++ history_text 2 (reverse history.now)) }
+    ensures { OnOk result (out.new ≡ out.old ++ history_text VERSION (reverse history.now)) }
 {
     let mut rest = history;
     'entries: while let Some((entry, others)) = rest.split_first() {
