@@ -11,6 +11,7 @@ ghost use Rattle.com_command_run.specs.Runs.{IsRun};
 ghost use Rattle.com_scenario.proofs.Lengths.{longer_than_all};
 ghost use Rattle.com_scenario.specs.Scenarios.{reading};
 ghost use Rattle.com_scenario.specs.Sizes.{is_too_long};
+ghost use Rattle.com_servant.specs.declared.crew.TheConstants.{ROWS};
 ghost use Rattle.com_servant.specs.Rows.{row};
 
 use crate::threaded::run;
@@ -67,7 +68,7 @@ fn reply<R: Threads + Wait + Sync, G: Gate + Sync>(
     gate: &G,
 ) -> Result<Reply, Memory>
     requires formed { Formed scenario }
-    requires rows { 25 ≤ vec_len crew }
+    requires rows { ROWS ≤ vec_len crew }
     requires crew { All (λ servants. map kind_of servants.items ≡ row) crew.items }
     ensures { IfOk result (λ reply. IsRun scenario reply.status reply.text) }
 {
@@ -84,8 +85,8 @@ fn reply<R: Threads + Wait + Sync, G: Gate + Sync>(
 /// Reads a scenario from the source, runs it on threads by the crew's servants, and writes its history and
 /// report to the sink. An input that is too long or whose text is no scenario is refused by a line with the
 /// line, the column and the number of the fault. The answer is the exit status: each has its cause
-/// (`answers`). Where want of memory comes, nothing was written (`unwritten`). The crew has 25 rows at least,
-/// as many as a scenario has lanes at most.
+/// (`answers`). Where want of memory comes, nothing was written (`unwritten`). The crew has `ROWS` rows at
+/// least, as many as a scenario has lanes at most.
 pub fn run_main<R: Threads + Wait + Sync, S: Source, K: Sink, G: Gate + Sync>(
     rt: &R,
     alloc: Global,
@@ -94,7 +95,7 @@ pub fn run_main<R: Threads + Wait + Sync, S: Source, K: Sink, G: Gate + Sync>(
     source: &mut S,
     sink: &mut K,
 ) -> u8
-    requires rows { 25 ≤ vec_len crew }
+    requires rows { ROWS ≤ vec_len crew }
     requires crew { All (λ servants. map kind_of servants.items ≡ row) crew.items }
     ensures answers { Responds (input_of is_too_long reading) IsRun result
         (sides_of S.left S.faults_of K.held K.faults_of source.old source.new sink.old sink.new) }
@@ -113,7 +114,7 @@ fn run_for<R: Threads + Wait + Sync, S: Source, K: Sink, G: Gate + Sync>(
     source: &mut S,
     sink: &mut K,
 ) -> Status
-    requires rows { 25 ≤ vec_len crew }
+    requires rows { ROWS ≤ vec_len crew }
     requires crew { All (λ servants. map kind_of servants.items ≡ row) crew.items }
     ensures answers { Causes (input_of is_too_long reading) IsRun result
         (sides_of S.left S.faults_of K.held K.faults_of source.old source.new sink.old sink.new) }

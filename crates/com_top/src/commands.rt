@@ -1,5 +1,6 @@
 //! The command that the words ask for.
 ghost use Rattle.std.specs.Prelude.{◌≡◌, ◌≢◌, All, map, string_bytes, vec_len};
+ghost use Rattle.com_servant.specs.declared.crew.TheConstants.{ROWS};
 ghost use Rattle.com_servant.specs.Rows.{row};
 ghost use Rattle.com_commands.specs.Statuses.{sides_of, sides_without_source};
 ghost use Rattle.com_top.specs.Commands.{Answered, CrewServed, IsUsage, ReadsNone, Served};
@@ -36,7 +37,7 @@ use std::thread::Threads;
 /// its cause (`answers`). Status 1 comes exactly for other words, unless the line that says so cannot be
 /// written; then nothing was read (`unread`).
 ///
-/// The crew has 25 rows, each with one servant of each kind in the order of the kinds; the first is that of
+/// The crew has `ROWS` rows, each with one servant of each kind in the order of the kinds; the first is that of
 /// lane 1. `run` takes the rows, and calls the gate between each step of a body and its commit. For all other
 /// words the crew keeps its rows (`rows`), and a command that replays uses the first one: it has had these
 /// servants count the steps of the bodies of its history, where its status is 0, 5 or 6. No other servant has
@@ -50,7 +51,7 @@ pub fn com_main<R: Threads + Wait + Sync, S: Source, K: Sink, G: Gate + Sync>(
     source: &mut S,
     sink: &mut K,
 ) -> u8
-    requires rows { vec_len crew.old ≡ 25 }
+    requires rows { vec_len crew.old ≡ ROWS }
     requires crew { All (λ servants. map kind_of servants.items ≡ row) crew.old.items }
     ensures answers { Answered (command_of (map string_bytes words.now)) result
         (sides_of S.left S.faults_of K.held K.faults_of source.old source.new sink.old sink.new)
@@ -61,7 +62,7 @@ pub fn com_main<R: Threads + Wait + Sync, S: Source, K: Sink, G: Gate + Sync>(
         (sides_without_source K.held K.faults_of sink.old sink.new)
         (map (λ servants. map stepped servants.items) crew.old.items)
         (map (λ servants. map stepped servants.items) crew.new.items) }
-    ensures rows { command_of (map string_bytes words.now) ≢ command.Run → vec_len crew.new ≡ 25 }
+    ensures rows { command_of (map string_bytes words.now) ≢ command.Run → vec_len crew.new ≡ ROWS }
     ensures crew { All (λ servants. map kind_of servants.items ≡ row) crew.new.items }
     ensures unread { ReadsNone (command_of (map string_bytes words.now)) → source.new ≡ source.old }
 {

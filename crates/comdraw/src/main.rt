@@ -8,6 +8,7 @@ ghost use Rattle.com_command_draw.specs.Words.{request_of};
 
 use com_base::Memory;
 use com_command_draw::draw_main;
+use com_commands::Status;
 use com_io::{Sink, Source, StdSink, StdSource};
 use com_replay::fresh_row;
 use std::alloc::{AllocError, Global};
@@ -15,21 +16,18 @@ use std::env;
 use std::io::ErrorKind;
 use std::process::ExitCode;
 
-// Want of memory for the words or for the row of servants.
-const NO_MEMORY: u8 = 9;
-
 // Does what the words behind the program's name ask for, and ends with the status of that. Want of
 // memory for the words or for the row of servants has a status of its own.
 fn main(rt: HostRuntime) -> ExitCode {
     let words = match words_of(&rt) {
         Ok(words) => words,
-        Err(_) => return ExitCode::from(NO_MEMORY),
+        Err(_) => return ExitCode::from(Status::Memory.code()),
     };
     let mut source = StdSource::new(rt.stdin());
     let mut sink = StdSink::new(rt.stdout());
     match serve(rt.alloc(), words.as_slice(), &mut source, &mut sink) {
         Ok(status) => ExitCode::from(status),
-        Err(_) => ExitCode::from(NO_MEMORY),
+        Err(_) => ExitCode::from(Status::Memory.code()),
     }
 }
 

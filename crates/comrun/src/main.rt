@@ -7,6 +7,7 @@ ghost use Rattle.com_top.specs.Commands.{Answered, ReadsNone};
 ghost use Rattle.com_top.specs.Words.{command_of};
 
 use com_base::Memory;
+use com_commands::Status;
 use com_io::{Sink, Source, StdSink, StdSource};
 use com_replay::fresh_row;
 use com_servant::{ROWS, Servant, is_manned};
@@ -19,21 +20,18 @@ use std::process::ExitCode;
 use std::sync::Wait;
 use std::thread::Threads;
 
-// Want of memory for the words or for the crew.
-const NO_MEMORY: u8 = 9;
-
 // Does what the words ask for, on the standard input and output. The exit status is that of the
-// command, and 9 where memory lacks for the words or the crew.
+// command, and that of want of memory where it lacks for the words or the crew.
 fn main(rt: HostRuntime) -> ExitCode {
     let words = match words_of(&rt) {
         Ok(words) => words,
-        Err(_) => return ExitCode::from(NO_MEMORY),
+        Err(_) => return ExitCode::from(Status::Memory.code()),
     };
     let mut source = StdSource::new(rt.stdin());
     let mut sink = StdSink::new(rt.stdout());
     match serve(&rt, rt.alloc(), words.as_slice(), &mut source, &mut sink) {
         Ok(status) => ExitCode::from(status),
-        Err(_) => ExitCode::from(NO_MEMORY),
+        Err(_) => ExitCode::from(Status::Memory.code()),
     }
 }
 
