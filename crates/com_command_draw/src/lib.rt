@@ -17,7 +17,7 @@ pub use com_base::Memory;
 pub use commands::draw_main;
 pub use frame::{TellingCommand, answer_by_row};
 pub use laws::{draw_points_completeness, draw_replay_completeness, draw_trace_completeness};
-pub use points::{PointsPage, draw_points_main};
+pub use points::draw_points_main;
 pub use replays::draw_replay_main;
 pub use requests::{Request, request_of};
 pub use traces::{TracePage, draw_trace_main};

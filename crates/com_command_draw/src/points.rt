@@ -1,14 +1,11 @@
 //! The page of the one history of a scenario with event sources.
 ghost use Rattle.std.specs.Prelude.{◌≡◌, IfOk, OnOk, map};
-ghost use Rattle.std.proofs.Common.{lit<};
-ghost use Rattle.com_base.specs.declared.limits.TheConstants.{TEXT_2_LIMIT};
 ghost use Rattle.com_commands.specs.Inputs.{input_of};
 ghost use Rattle.com_commands.specs.Responses.{Responds, Serves};
 ghost use Rattle.com_commands.specs.Statuses.{sides_of};
 ghost use Rattle.com_replay.specs.Replays.{whole_served};
 ghost use Rattle.com_model.specs.Formed.{Formed};
 ghost use Rattle.com_points.specs.Sources.{reading_points};
-ghost use Rattle.com_scenario.proofs.Lengths.{longer_than_all};
 ghost use Rattle.com_scenario.specs.Sizes.{is_too_long};
 ghost use Rattle.com_servant.specs.Rows.{row};
 ghost use Rattle.com_command_draw.specs.Pages.{ArePointsDrawn, points_concludes};
@@ -17,47 +14,16 @@ use crate::beginning::begin;
 use crate::ending::end_page;
 use crate::frame::{TellingCommand, answer_by_row};
 use crate::stuck::explain_end;
-use com_base::{ByteList, Memory, Rows, TEXT_2_LIMIT};
-use com_commands::{Input, InputReader, Reply, first_fault, read_as, share, status_at};
+use com_base::{Memory, Rows};
+use com_command_points::PointsCommand;
+use com_commands::{Reply, share, status_at};
 use com_deliveries::deliveries;
 use com_io::{Sink, Source};
 use com_model::Scenario;
-use com_points::read_points;
-use com_scenario::is_too_long;
 use com_servant::Servant;
 use std::alloc::Global;
 
-/// The page of a scenario with event sources.
-pub struct PointsPage;
-
-impl InputReader for PointsPage {
-    type Read = Scenario;
-
-    const LIMIT: usize = TEXT_2_LIMIT;
-
-    ghost LIMIT = { TEXT_2_LIMIT };
-
-    ghost too_long = { is_too_long };
-
-    ghost reading = { reading_points };
-
-    ghost sound = { Formed };
-
-    #[tactic(auto, using(com_commands::proofs::Asking::long_input, com_commands::proofs::Asking::given_input, com_commands::proofs::Asking::given_sound))]
-    fn read(alloc: Global, text: ByteList) -> Result<Input<Scenario>, Memory> {
-        if is_too_long(alloc, text.as_slice())? {
-            return Ok(Input::TooLong);
-        }
-        let read = first_fault(read_points(alloc, text.as_slice()))?;
-        Ok(read_as(read))
-    }
-
-    ghost limited = { lit< tt };
-
-    ghost longer = { longer_than_all };
-}
-
-impl TellingCommand for PointsPage {
+impl TellingCommand for PointsCommand {
     ghost fits = { ArePointsDrawn };
 
     ghost served = { whole_served };
@@ -123,5 +89,5 @@ pub fn draw_points_main<S: Source, K: Sink>(
     ensures row { map kind_of servants.new.items ≡ row }
     ensures unwritten { result ≡ 9 → K.held sink.new ≡ K.held sink.old }
 {
-    answer_by_row::<PointsPage, S, K>(alloc, servants, source, sink)
+    answer_by_row::<PointsCommand, S, K>(alloc, servants, source, sink)
 }

@@ -23,10 +23,10 @@ use com_scenario::is_too_long;
 use com_servant::Servant;
 use std::alloc::Global;
 
-// The command `points`.
-struct Points;
+/// The command `points`: a scenario with event sources, its history and report, and its events.
+pub struct PointsCommand;
 
-impl InputReader for Points {
+impl InputReader for PointsCommand {
     type Read = Scenario;
 
     const LIMIT: usize = TEXT_2_LIMIT;
@@ -53,7 +53,7 @@ impl InputReader for Points {
     ghost longer = { longer_than_all };
 }
 
-impl PlayingCommand for Points {
+impl PlayingCommand for PointsCommand {
     ghost fits = { IsPlayed };
 
     ghost served = { whole_served };
@@ -93,7 +93,7 @@ pub fn points_main<S: Source, K: Sink>(
         (map stepped servants.old.items) (map stepped servants.new.items) }
     ensures row { map kind_of servants.new.items ≡ row }
 {
-    perform::<Points, S, K>(alloc, servants, source, sink)
+    perform::<PointsCommand, S, K>(alloc, servants, source, sink)
 }
 
 /// Where the input is told and no count of faults rises, `points` answers it whole; or want of memory comes.

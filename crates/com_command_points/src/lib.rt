@@ -7,4 +7,4 @@ mod events;
 mod playing;
 
 pub use com_base::Memory;
-pub use command::{points_completeness, points_main};
+pub use command::{PointsCommand, points_completeness, points_main};
