@@ -1,5 +1,6 @@
 pub mod Steps
 pub mod Replays
+pub mod Endings
 pub mod Streams
 pub mod Playing
 pub mod Streaming

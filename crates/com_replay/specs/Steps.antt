@@ -1,11 +1,12 @@
 -- What a step of a course does.
-use Rattle.std.specs.Prelude.{◌≡◌, ℕ, ◌++◌, ◌<◌, Bool, true, false, List, Option, Some, None, ◌⊎◌}
+use Rattle.std.specs.Prelude.{◌≡◌, ℕ, ◌++◌, ◌<◌, Bool, true, false, List, Option, Some, None, ◌⊎◌, drop}
 use Rattle.com_io.specs.Told.{GainsPrefix}
 use Rattle.com_model.specs.declared.counts.Ended.{Ended}
 use Rattle.com_model.specs.declared.deeds.Entry.{Entry}
 use Rattle.com_model.specs.declared.scenario.Scenario.{Scenario}
 use Rattle.com_model.specs.Ends.{limit}
 use Rattle.com_model.specs.State.{State}
+use Rattle.com_replay.specs.declared.course.Course.{Course}
 use Rattle.com_replay.specs.declared.course.Turned.{Turned}
 use Rattle.com_replay.specs.declared.course.Turned.TheVariants.{Made, Over}
 use Rattle.com_runtime.specs.Standings.{ended_now, none_can_in}
@@ -28,6 +29,23 @@ pub record Place : Type 0 where
   pub picks : List ℕ
   pub last : ℕ
   pub steps : List ℕ
+
+-- The moment of a course of a scenario, by the runtime's state, what the sink holds and the servants' counts.
+abbrev pub moment_of : Scenario → State → Course → (held : Option (List ℕ)) → (steps : List ℕ) → Moment
+moment_of s st course held steps =
+    record {
+      state = st;
+      picks = drop course.tried s.picks;
+      last = course.last;
+      lines = course.lines;
+      held = held;
+      steps = steps;
+    }
+
+-- The same without what is written.
+abbrev pub place_of : Scenario → State → Course → (steps : List ℕ) → Place
+place_of s st course steps =
+    record { state = st; picks = drop course.tried s.picks; last = course.last; steps = steps }
 
 -- A turn was made, but for its line.
 pub record IsTurned (s : Scenario) (p q : Place) (e : Entry) : Type 0 where

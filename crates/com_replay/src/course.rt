@@ -1,17 +1,16 @@
 //! The course of a history: each step is one turn of the schedule and one line.
 ghost use Rattle.std.specs.Prelude.{◌≡◌, ◌≤◌, ◌++◌, [], IfOk, OnOk};
-ghost use Rattle.std.specs.Prelude.{Err, List, OnErr, map, drop};
+ghost use Rattle.std.specs.Prelude.{Err, List, OnErr, map};
 ghost use Rattle.com_io.specs.Faults.{Rose};
 ghost use Rattle.com_io.specs.Told.{Gains, GainsPrefix};
-ghost use Rattle.com_model.specs.Text.{report_text};
-ghost use Rattle.com_runtime.specs.Reports.{all_counts_in};
 ghost use Rattle.com_model.specs.Tables.{lanes};
 ghost use Rattle.com_model.specs.Ends.{limit};
 ghost use Rattle.com_servant.specs.Rows.{row};
 ghost use Rattle.com_replay.specs.declared.lines.ReplayError.TheVariants as replay_error;
 ghost use Rattle.com_runtime.specs.Standings.{Reached};
 ghost use Rattle.com_model.specs.declared.deeds.Entry.{Entry as AnyEntry};
-ghost use Rattle.com_replay.specs.Steps.{IsLaneTurn, StepsTo, TurnsTo, Fails};
+ghost use Rattle.com_replay.specs.Endings.{replayed_in, report_in};
+ghost use Rattle.com_replay.specs.Steps.{Fails, IsLaneTurn, StepsTo, TurnsTo, moment_of, place_of};
 ghost use Rattle.com_replay.specs.Streams.{Advances, BrokenOff, StandsAt, UnderWay, position};
 
 use crate::finish::finish;
@@ -88,17 +87,10 @@ impl Course {
         requires reached { Reached (C.scenario runtime.old) (C.state runtime.old) }
         requires row { map kind_of servants.old.items ≡ row }
         ensures scenario { C.scenario runtime.new ≡ scenario.now }
-        ensures turn { IfOk result (λ made. IsLaneTurn scenario.now (record {
-          state = C.state runtime.old;
-          picks = drop self.old.tried scenario.now.picks;
-          last = self.old.last;
-          steps = map stepped servants.old.items;
-        }) (record {
-          state = C.state runtime.new;
-          picks = drop self.new.tried scenario.now.picks;
-          last = self.new.last;
-          steps = map stepped servants.new.items;
-        }) (C.made runtime.new) made) }
+        ensures turn { IfOk result (λ made. IsLaneTurn scenario.now
+            (place_of scenario.now (C.state runtime.old) self.old (map stepped servants.old.items))
+            (place_of scenario.now (C.state runtime.new) self.new (map stepped servants.new.items))
+            (C.made runtime.new) made) }
         ensures last { self.new.last ≤ lanes scenario.now }
         ensures lines { self.new.lines ≡ self.old.lines }
         ensures row { map kind_of servants.new.items ≡ row }
@@ -130,17 +122,10 @@ impl Course {
         requires reached { Reached (C.scenario runtime.old) (C.state runtime.old) }
         requires row { map kind_of servants.old.items ≡ row }
         ensures scenario { C.scenario runtime.new ≡ scenario.now }
-        ensures turn { IfOk result (λ step. TurnsTo scenario.now (record {
-          state = C.state runtime.old;
-          picks = drop self.old.tried scenario.now.picks;
-          last = self.old.last;
-          steps = map stepped servants.old.items;
-        }) (record {
-          state = C.state runtime.new;
-          picks = drop self.new.tried scenario.now.picks;
-          last = self.new.last;
-          steps = map stepped servants.new.items;
-        }) (C.made runtime.new) step) }
+        ensures turn { IfOk result (λ step. TurnsTo scenario.now
+            (place_of scenario.now (C.state runtime.old) self.old (map stepped servants.old.items))
+            (place_of scenario.now (C.state runtime.new) self.new (map stepped servants.new.items))
+            (C.made runtime.new) step) }
         ensures last { self.new.last ≤ lanes scenario.now }
         ensures lines { self.new.lines ≡ self.old.lines }
         ensures row { map kind_of servants.new.items ≡ row }
@@ -186,29 +171,16 @@ impl Course {
         ensures reached { OnOk result (Reached scenario.now (C.state runtime.new)) }
         ensures last { self.new.last ≤ lanes scenario.now }
         ensures row { map kind_of servants.new.items ≡ row }
-        ensures step { IfOk result (λ step. StepsTo scenario.now (record {
-          state = C.state runtime.old;
-          picks = drop self.old.tried scenario.now.picks;
-          last = self.old.last;
-          lines = self.old.lines;
-          held = K.held sink.old;
-          steps = map stepped servants.old.items;
-        }) (record {
-          state = C.state runtime.new;
-          picks = drop self.new.tried scenario.now.picks;
-          last = self.new.last;
-          lines = self.new.lines;
-          held = K.held sink.new;
-          steps = map stepped servants.new.items;
-        }) (C.made runtime.new) step) }
-        ensures prefix { OnErr result (Fails scenario.now (record {
-          state = C.state runtime.old;
-          picks = drop self.old.tried scenario.now.picks;
-          last = self.old.last;
-          lines = self.old.lines;
-          held = K.held sink.old;
-          steps = map stepped servants.old.items;
-        }) (K.held sink.new)) }
+        ensures step { IfOk result (λ step. StepsTo scenario.now
+            (moment_of scenario.now (C.state runtime.old) self.old (K.held sink.old)
+            (map stepped servants.old.items))
+            (moment_of scenario.now (C.state runtime.new) self.new (K.held sink.new)
+            (map stepped servants.new.items))
+            (C.made runtime.new) step) }
+        ensures prefix { OnErr result (Fails scenario.now
+            (moment_of scenario.now (C.state runtime.old) self.old (K.held sink.old)
+            (map stepped servants.old.items))
+            (K.held sink.new)) }
         ensures memory { result ≡ Err replay_error.Memory → K.held sink.new ≡ K.held sink.old }
         ensures fault { result ≡ Err replay_error.WriteFault
             → Rose (K.faults_of sink.old) (K.faults_of sink.new) }
@@ -246,19 +218,11 @@ impl Course {
     ) -> Result<Replayed, ReplayError>
         requires scenario { C.scenario runtime.now ≡ scenario.now }
         requires reached { Reached scenario.now (C.state runtime.now) }
-        ensures ok { OnOk result (Gains (K.held sink.old) (K.held sink.new) (self.old.lines
-            ++ report_text (all_counts_in scenario.now (C.state runtime.now))
-            (C.state runtime.now).entries (C.state runtime.now).clock ended)) }
-        ensures answer { IfOk result (λ replayed. replayed
-            ≡ record {
-              ended = ended;
-              entries = (C.state runtime.now).entries;
-              clock =
-                  (C.state runtime.now).clock;
-            }) }
-        ensures prefix { GainsPrefix (K.held sink.old) (K.held sink.new) (self.old.lines
-            ++ report_text (all_counts_in scenario.now (C.state runtime.now))
-            (C.state runtime.now).entries (C.state runtime.now).clock ended) }
+        ensures ok { OnOk result (Gains (K.held sink.old) (K.held sink.new)
+            (self.old.lines ++ report_in scenario.now (C.state runtime.now) ended)) }
+        ensures answer { IfOk result (λ replayed. replayed ≡ replayed_in (C.state runtime.now) ended) }
+        ensures prefix { GainsPrefix (K.held sink.old) (K.held sink.new)
+            (self.old.lines ++ report_in scenario.now (C.state runtime.now) ended) }
         ensures memory { result ≡ Err replay_error.Memory → K.held sink.new ≡ K.held sink.old }
         ensures fault { result ≡ Err replay_error.WriteFault
             → Rose (K.faults_of sink.old) (K.faults_of sink.new) }

@@ -2,9 +2,8 @@
 ghost use Rattle.std.specs.Prelude.{◌≡◌, ◌≤◌, ◌++◌, [], IfOk, OnOk, Err};
 ghost use Rattle.com_io.specs.Faults.{Rose};
 ghost use Rattle.com_io.specs.Told.{Gains, GainsPrefix};
-ghost use Rattle.com_model.specs.Text.{report_text};
 ghost use Rattle.com_replay.specs.declared.lines.ReplayError.TheVariants as replay_error;
-ghost use Rattle.com_runtime.specs.Reports.{all_counts_in};
+ghost use Rattle.com_replay.specs.Endings.{replayed_in, report_in};
 ghost use Rattle.com_runtime.specs.Standings.{Reached};
 
 use crate::lines::{ReplayError, tell};
@@ -27,20 +26,12 @@ pub fn finish<C: Runtime, K: Sink>(
 ) -> Result<Replayed, ReplayError>
     requires scenario { C.scenario runtime.now ≡ scenario.now }
     requires reached { Reached scenario.now (C.state runtime.now) }
-    ensures ok { OnOk result (Gains (K.held sink.old) (K.held sink.new) (kept.old
-        ++ report_text (all_counts_in scenario.now (C.state runtime.now))
-        (C.state runtime.now).entries (C.state runtime.now).clock ended)) }
+    ensures ok { OnOk result (Gains (K.held sink.old) (K.held sink.new)
+        (kept.old ++ report_in scenario.now (C.state runtime.now) ended)) }
     ensures empty { OnOk result (kept.new ≡ []) }
-    ensures answer { IfOk result (λ replayed. replayed
-        ≡ record {
-          ended = ended;
-          entries = (C.state runtime.now).entries;
-          clock =
-              (C.state runtime.now).clock;
-        }) }
-    ensures prefix { GainsPrefix (K.held sink.old) (K.held sink.new) (kept.old
-        ++ report_text (all_counts_in scenario.now (C.state runtime.now))
-        (C.state runtime.now).entries (C.state runtime.now).clock ended) }
+    ensures answer { IfOk result (λ replayed. replayed ≡ replayed_in (C.state runtime.now) ended) }
+    ensures prefix { GainsPrefix (K.held sink.old) (K.held sink.new)
+        (kept.old ++ report_in scenario.now (C.state runtime.now) ended) }
     ensures memory { result ≡ Err replay_error.Memory → K.held sink.new ≡ K.held sink.old }
     ensures fault { result ≡ Err replay_error.WriteFault
         → Rose (K.faults_of sink.old) (K.faults_of sink.new) }
