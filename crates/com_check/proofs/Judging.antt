@@ -21,7 +21,8 @@ use Rattle.com_model.proofs.Sights.{same-next, same-sight}
 use Rattle.com_model.proofs.Whole.{first-stands}
 use Rattle.com_runtime.proofs.Runs.{stands-later}
 use Rattle.com_runtime.specs.Reports.{all_counts_in}
-use Rattle.com_runtime.specs.Standings.{can_step_in, ended_now, turn_now, CanGo, Reached}
+use Rattle.com_runtime.specs.declared.runtime.Standing.{Standing}
+use Rattle.com_runtime.specs.Standings.{can_step_in, ended_now, standing_of, turn_now, CanGo, Reached}
 use Rattle.com_runtime.specs.Turns.{IsNext}
 use Rattle.com_runtime.proofs.Choices.{ended_runs}
 use Rattle.com_runtime.proofs.Counting.{all-counted}
@@ -34,8 +35,8 @@ use Rattle.com_check.specs.declared.judged.Judged.TheVariants as judged
 use Rattle.com_check.specs.Fronts.{named, IsNoLane}
 use Rattle.com_check.specs.Lines.{lines_of}
 use Rattle.com_check.specs.Judging.{IsJudged, Unended, entry_line, entry_of, history_lines, lane_due, lane_of_turn, last_lane, legal_line, line_due, report_lines, shown}
-use Rattle.com_check.specs.Turning.{IsCompared, IsEntry, IsLast, IsLine, IsNextOf, IsOther, IsReported, IsScheduled, IsTold, IsTried, IsTurn, IsWritten, entry_in, lane_in, line_in}
-use Rattle.com_check.proofs.Entries.{entry_made, none_above}
+use Rattle.com_check.specs.Turning.{IsCompared, IsEntry, IsLast, IsLine, IsNextOf, IsOther, IsReported, IsScheduled, IsTold, IsTried, IsTurn, IsUnderWay, IsUntried, IsWritten, NamesNoLane, Ongoing, entry_in, lane_in, line_in}
+use Rattle.com_check.proofs.Entries.{entry_made, none_above, none_still}
 use Rattle.com_check.proofs.Histories.{history_length, nothing_told}
 
 -- ---- a line
@@ -224,13 +225,21 @@ first_sofar s trace st last is none = record {
   parts = nothing_yet s.version (lines_of trace);
 }
 
-pub sofar_reached : (s : Scenario) (trace : List ℕ) (st : State) (last : ℕ) (rest : List ℕ) → Formed s → Sofar s trace st last rest → Reached s st
+sofar_reached : (s : Scenario) (trace : List ℕ) (st : State) (last : ℕ) (rest : List ℕ) → Formed s → Sofar s trace st last rest → Reached s st
 sofar_reached s trace st last rest f p = reached_by s st p.history f p.stands
 
-pub sofar_within : (s : Scenario) (trace : List ℕ) (st : State) (last : ℕ) (rest : List ℕ) → Sofar s trace st last rest → st.entries ≤ limit s
+sofar_within : (s : Scenario) (trace : List ℕ) (st : State) (last : ℕ) (rest : List ℕ) → Sofar s trace st last rest → st.entries ≤ limit s
 sofar_within s trace st last rest p = let c = p.few in let k = p.stands.entries in omega (arith, c, k)
 
-pub sofar_below : (s : Scenario) (trace : List ℕ) (st : State) (last : ℕ) (rest : List ℕ) → Sofar s trace st last rest → ended_now s st ≡ None
+pub sofar_under_way : (s own : Scenario) (trace : List ℕ) (st : State) (last : ℕ) (rest : List ℕ) → Formed s → Sofar s trace st last rest → own ≡ s
+    → IsUnderWay s own st
+sofar_under_way s own trace st last rest f p same = record {
+  same = same;
+  reached = sofar_reached s trace st last rest f p;
+  few = sofar_within s trace st last rest p;
+}
+
+sofar_below : (s : Scenario) (trace : List ℕ) (st : State) (last : ℕ) (rest : List ℕ) → Sofar s trace st last rest → ended_now s st ≡ None
     → st.entries < limit s
 sofar_below s trace st last rest p goes = below_limit s st goes (sofar_within s trace st last rest p)
 
@@ -396,16 +405,30 @@ line_compared s st new last old last_new lane n rest found line o t count kept i
     (turn_settled s st new last old last_new lane n w.entry found line t w.names w.next place
     (w.line_is ∙ ap (λ (k : ℕ). entry_line s.version k w.entry) (sym place)) kept same)
 
-pub untried : (s : Scenario) (st now : State) (found line : List ℕ) (o : Option ℕ) → ((x : ℕ) → o ≡ Some x → ⊥) → IsTried s st found o now line → now ≡ st
+pub untried : (s : Scenario) (st now : State) (found line : List ℕ) (o : Option ℕ) → ((x : ℕ) → o ≡ Some x → ⊥) → IsTried s st found o now line
+    → IsUntried s st found now
 untried s st now found line None n tried = tried
 untried s st now found line (Some l) n tried = absurd (n l refl)
+
+-- The runtime of a judge is under way where nothing has changed, and no lane makes the found line's entry.
+pub still_under_way : (s r own : Scenario) (st now : State) (found line : List ℕ) (o : Option ℕ) → ((x : ℕ) → o ≡ Some x → ⊥)
+    → IsTried s st found o now line → own ≡ s → IsUnderWay s r st → IsUnderWay s own now
+still_under_way s r own st now found line o n tried same p =
+    subst (λ (x : State). IsUnderWay s own x) (sym (untried s st now found line o n tried).same)
+    (record { same = same; reached = p.reached; few = p.few })
+
+pub still_no_lane : (s : Scenario) (st now : State) (found line : List ℕ) (o : Option ℕ) → ((x : ℕ) → o ≡ Some x → ⊥)
+    → IsTried s st found o now line → now.entries < limit s → NamesNoLane s now found
+still_no_lane s st now found line o n tried =
+    let u : IsUntried s st found now = untried s st now found line o n tried in
+    subst (λ (x : State). x.entries < limit s → NamesNoLane s x found) (sym u.same) u.no_lane
 
 -- Nothing has changed before.
 pub line_stood : (s : Scenario) (st now new : State) (last old last_new : ℕ) (rest found line : List ℕ) (o : Option ℕ) (t : Option Judged)
     → ((x : ℕ) → o ≡ Some x → ⊥) → IsTried s st found o now line → old ≡ last → IsLine s now old rest found t new last_new
     → IsLine s st last rest found t new last_new
 line_stood s st now new last old last_new rest found line o t n tried kept p =
-    subst (λ (x : State). IsLine s x last rest found t new last_new) (untried s st now found line o n tried)
+    subst (λ (x : State). IsLine s x last rest found t new last_new) (untried s st now found line o n tried).same
     (subst (λ (l : ℕ). IsLine s now l rest found t new last_new) kept p)
 
 -- ---- lanes that are tried
@@ -443,16 +466,67 @@ lane_tried r s st new found line l n made e a b same reached room names low high
 pub lane_still : (s : Scenario) (st new : State) (l : ℕ) (made : Bool) (e : Entry) (a b : List ℕ) → made ≡ false → Tried s st l made e new a b → new ≡ st
 lane_still s st new l made e a b is tried = let still : Still st new a b = lane_rests s st l made e new a b tried is in still.state
 
--- ---- the same, where a runtime's scenario is known by an equation
+-- ---- lines whose entry no lane makes
 
-pub below_at : (r s : Scenario) (st : State) → r ≡ s → ended_now s st ≡ None → st.entries ≤ limit s → st.entries < limit r
-below_at r s st e goes few = subst (λ (x : Scenario). st.entries < limit x) (sym e) (below_limit s st goes few)
+one_lane : (a b : ℕ) → Some a ≡ Some b → a ≡ b
+one_lane a b same = cc
 
-pub state_reached : (s : Scenario) (st now : State) → now ≡ st → Reached s st → Reached s now
-state_reached s st now e p = subst (λ (x : State). Reached s x) (sym e) p
+not_named : (l : ℕ) → None ≡ Some l → ⊥
+not_named l same = cc
 
-pub state_few : (s : Scenario) (st now : State) → now ≡ st → st.entries ≤ limit s → now.entries ≤ limit s
-state_few s st now e p = subst (λ (x : State). x.entries ≤ limit s) (sym e) p
+-- The line names the clock.
+pub names_zero : (found : List ℕ) (lane : ℕ) → named found ≡ Some lane → lane ≤ 0 → named found ≡ Some 0
+names_zero found lane names low = let zero : lane ≡ 0 = omega (arith, low) in names ∙ ap (λ (l : ℕ). Some l) zero
+
+-- The line names this lane alone.
+names_one : (s : Scenario) (st : State) (found : List ℕ) (lane : ℕ) → named found ≡ Some lane → (1 ≤ lane → entry_in s st lane ≡ None)
+    → NamesNoLane s st found
+names_one s st found lane names none = record { none = λ l is low. by l (one_lane lane l (sym names ∙ is)) low }
+  where
+    by : (l : ℕ) → lane ≡ l → 1 ≤ l → entry_in s st l ≡ None
+    by l same low = subst (λ (n : ℕ). entry_in s st n ≡ None) same (none (subst (λ (n : ℕ). 1 ≤ n) (sym same) low))
+
+names_none : (s : Scenario) (st : State) (found : List ℕ) (x : Option ℕ) → Reached s st → named found ≡ x → IsNoLane x → NamesNoLane s st found
+names_none s st found None r e p = record { none = λ l is low. absurd (not_named l (sym e ∙ is)) }
+names_none s st found (Some lane) r e p = names_one s st found lane e (λ low. none_above s st lane r (few_lanes s st lane r p))
+
+still : (s : Scenario) (st : State) (found : List ℕ) → NamesNoLane s st found → IsUntried s st found st
+still s st found none = record { same = refl; no_lane = λ room. none }
+
+pub without_room : (s : Scenario) (st : State) (found : List ℕ) → limit s ≤ st.entries → IsUntried s st found st
+without_room s st found full = record { same = refl; no_lane = λ room. absurd (omega (arith, full, room)) }
+
+pub without_lane : (s r : Scenario) (st : State) (found : List ℕ) → IsUnderWay s r st → IsNoLane (named found) → IsUntried s st found st
+without_lane s r st found p none = still s st found (names_none s st found (named found) p.reached refl none)
+
+pub names_clock : (s : Scenario) (st : State) (found : List ℕ) (lane : ℕ) → named found ≡ Some lane → lane < 1 → IsUntried s st found st
+names_clock s st found lane names below = still s st found (names_one s st found lane names (λ low. absurd (omega (arith, below, low))))
+
+pub names_above : (s r : Scenario) (st : State) (found : List ℕ) (lane : ℕ) → IsUnderWay s r st → named found ≡ Some lane → lanes r < lane
+    → IsUntried s st found st
+names_above s r st found lane p names high =
+    still s st found
+    (names_one s st found lane names (λ low. none_above s st lane p.reached (subst (λ (x : Scenario). lanes x < lane) p.same high)))
+
+pub names_waiting : (s r : Scenario) (st new : State) (found : List ℕ) (lane : ℕ) (made : Bool) (e : Entry) (a b : List ℕ) → IsUnderWay s r st
+    → named found ≡ Some lane → made ≡ can_step_in r st lane → made ≡ false → Tried r st lane made e new a b → IsUntried s st found new
+names_waiting s r st new found lane made e a b p names can is tried = record {
+  same = lane_still r st new lane made e a b is tried;
+  no_lane = λ room. names_one s st found lane names
+      (λ low. none_still s st lane low (sym is ∙ can ∙ ap (λ (x : Scenario). can_step_in x st lane) p.same));
+}
+
+-- ---- a history that goes on
+
+pub ongoing : (s r : Scenario) (st : State) (x : Standing) → IsUnderWay s r st → x ≡ standing_of r st → ended_now s st ≡ None → Ongoing r st x
+ongoing s r st x p is goes =
+    subst (λ (k : Scenario). x ≡ standing_of k st → Ongoing k st x) (sym p.same)
+    (λ same. record { standing = same; goes_on = goes; room = below_limit s st goes p.few; reached = p.reached }) is
+
+pub no_lane_there : (s r : Scenario) (st : State) (found : List ℕ) → IsUnderWay s r st → ended_now s st ≡ None
+    → (st.entries < limit s → NamesNoLane s st found) → NamesNoLane r st found
+no_lane_there s r st found p goes none =
+    subst (λ (k : Scenario). NamesNoLane k st found) (sym p.same) (none (below_limit s st goes p.few))
 
 -- ---- what is known where a pattern was not met
 

@@ -1,15 +1,15 @@
 -- What the steps of a judge find, by the tables of a runtime.
-use Rattle.std.specs.Prelude.{◌≡◌, ◌≢◌, ℕ, ◌+◌, List, [], ◌++◌, length, Option, Some, None, option_map}
+use Rattle.std.specs.Prelude.{◌≡◌, ◌≢◌, ℕ, ◌+◌, ◌<◌, ◌≤◌, List, [], ◌++◌, length, Option, Some, None, option_map}
 use Rattle.std.specs.Prelude.{option_and_then}
 use Rattle.com_model.specs.declared.counts.Ended.{Ended}
 use Rattle.com_model.specs.declared.deeds.Entry.{Entry}
 use Rattle.com_model.specs.declared.scenario.Scenario.{Scenario}
-use Rattle.com_model.specs.Ends.{last_after}
+use Rattle.com_model.specs.Ends.{last_after, limit}
 use Rattle.com_model.specs.Lists.{first}
 use Rattle.com_model.specs.State.{State, next_of}
-use Rattle.com_model.specs.Text.{report_text}
-use Rattle.com_runtime.specs.Reports.{all_counts_in}
-use Rattle.com_runtime.specs.Standings.{ended_now, turn_now}
+use Rattle.com_replay.specs.Endings.{report_in}
+use Rattle.com_runtime.specs.declared.runtime.Standing.{Standing}
+use Rattle.com_runtime.specs.Standings.{Reached, ended_now, standing_of, turn_now}
 use Rattle.com_runtime.specs.Turns.{IsNext}
 use Rattle.com_check.specs.declared.judged.Judged.{Judged}
 use Rattle.com_check.specs.declared.judged.Judged.TheVariants as judged
@@ -30,6 +30,21 @@ unfoldable pub line_in : Scenario → State → (last : ℕ) → (found : Option
 line_in s st last found =
     option_map (entry_line s.version (st.entries + 1))
     (option_and_then (entry_in s st) (lane_in s st last found))
+
+-- ---- the runtime of a judge
+
+-- It is a runtime of this scenario, and its state stands for a history that is no longer than it may be.
+pub record IsUnderWay (s own : Scenario) (st : State) : Type 0 where
+  pub same : own ≡ s
+  pub reached : Reached s st
+  pub few : st.entries ≤ limit s
+
+-- Its history has not ended, and stands so: there is room for an entry.
+pub record Ongoing (s : Scenario) (st : State) (x : Standing) : Type 0 where
+  pub standing : x ≡ standing_of s st
+  pub goes_on : ended_now s st ≡ None
+  pub room : st.entries < limit s
+  pub reached : Reached s st
 
 -- ---- entries
 
@@ -95,8 +110,7 @@ IsReported before report trace (judged.Differs line found legal) =
 -- What a trace has left was judged beside the report of a runtime whose history has ended so.
 abbrev pub IsTold : Scenario → State → Ended → (rest : List ℕ) → Judged → Type 0
 IsTold s st x rest j =
-    IsReported st.entries (lines_of (report_text (all_counts_in s st) st.entries st.clock x)) (lines_of rest)
-    j
+    IsReported st.entries (lines_of (report_in s st x)) (lines_of rest) j
 
 -- ---- what a trace has left
 
@@ -109,9 +123,18 @@ pub record IsWritten (s : Scenario) (st : State) (found : List ℕ) (lane : ℕ)
   pub next : IsNext s st lane entry new
   pub line_is : line ≡ entry_line s.version (st.entries + 1) entry
 
+-- No lane makes the entry of a found line: the line names none that has a next entry, but perhaps the clock.
+pub record NamesNoLane (s : Scenario) (st : State) (found : List ℕ) : Type 0 where
+  pub none : (lane : ℕ) → named found ≡ Some lane → 1 ≤ lane → entry_in s st lane ≡ None
+
+-- Nothing has changed: there is no room for an entry, or no lane makes that of the found line.
+pub record IsUntried (s : Scenario) (st : State) (found : List ℕ) (new : State) : Type 0 where
+  pub same : new ≡ st
+  pub no_lane : st.entries < limit s → NamesNoLane s st found
+
 -- A lane was tried: it made its entry, whose line was written, or nothing has changed.
 abbrev pub IsTried : Scenario → State → (found : List ℕ) → (lane : Option ℕ) → State → (line : List ℕ) → Type 0
-IsTried s st found None new line = new ≡ st
+IsTried s st found None new line = IsUntried s st found new
 IsTried s st found (Some lane) new line = IsWritten s st found lane new line
 
 -- What a trace has left was judged beside the report, where the history has ended so, or its first line in the

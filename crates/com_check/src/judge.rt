@@ -9,7 +9,7 @@ ghost use Rattle.com_servant.specs.Rows.{row};
 ghost use Rattle.com_runtime.specs.Standings.{ended_now, standing_of, Reached};
 ghost use Rattle.com_check.specs.Judging.{entry_line, IsJudged};
 ghost use Rattle.com_check.specs.Turning.{IsCompared, IsLast, IsLine, IsNextOf, IsOther, IsScheduled};
-ghost use Rattle.com_check.specs.Turning.{IsTold, IsTried, IsTurn};
+ghost use Rattle.com_check.specs.Turning.{IsTold, IsTried, IsTurn, IsUnderWay, NamesNoLane, Ongoing};
 ghost use Rattle.com_check.specs.declared.judged.Judged.TheVariants as judged;
 
 use crate::fronts::lane_of;
@@ -35,10 +35,7 @@ fn last_after(lane: u32, last: u32) -> u32
 // Makes the clock's entry, where the clock goes on. The only error is want of memory.
 #[tactic(auto, using(crate::proofs::Entries::no_tick, com_runtime::proofs::Limits::not_finished, com_runtime::proofs::Limits::not_stuck))]
 fn clock_entry<C: Runtime>(runtime: &mut C, standing: Standing) -> Result<Option<Entry>, Memory>
-    requires standing { standing ≡ standing_of (C.scenario runtime.old) (C.state runtime.old) }
-    requires goes_on { ended_now (C.scenario runtime.old) (C.state runtime.old) ≡ None }
-    requires room { (C.state runtime.old).entries < limit (C.scenario runtime.old) }
-    requires reached { Reached (C.scenario runtime.old) (C.state runtime.old) }
+    requires goes_on { Ongoing (C.scenario runtime.old) (C.state runtime.old) standing }
     ensures scenario { C.scenario runtime.new ≡ C.scenario runtime.old }
     ensures made { IfOk result (λ made. IsNextOf (C.scenario runtime.old) (C.state runtime.old) 0 made
         (C.state runtime.new)) }
@@ -54,39 +51,6 @@ fn clock_entry<C: Runtime>(runtime: &mut C, standing: Standing) -> Result<Option
     }
 }
 
-// Makes the next entry of a lane, or of the clock as lane 0, where there is one. The only error is want of
-// memory.
-#[tactic(auto, using(crate::proofs::Entries::none_above, crate::proofs::Entries::none_still))]
-fn next_of<C: Runtime>(
-    alloc: Global,
-    runtime: &mut C,
-    standing: Standing,
-    lane: u32,
-    servants: &mut Vec<Box<dyn Servant + Send>>,
-) -> Result<Option<Entry>, Memory>
-    requires standing { standing ≡ standing_of (C.scenario runtime.old) (C.state runtime.old) }
-    requires goes_on { ended_now (C.scenario runtime.old) (C.state runtime.old) ≡ None }
-    requires room { (C.state runtime.old).entries < limit (C.scenario runtime.old) }
-    requires reached { Reached (C.scenario runtime.old) (C.state runtime.old) }
-    requires row { map kind_of servants.old.items ≡ row }
-    ensures scenario { C.scenario runtime.new ≡ C.scenario runtime.old }
-    ensures row { map kind_of servants.new.items ≡ row }
-    ensures made { IfOk result (λ made. IsNextOf (C.scenario runtime.old) (C.state runtime.old) lane made
-        (C.state runtime.new)) }
-{
-    if lane == 0 {
-        return clock_entry(runtime, standing);
-    }
-    if runtime.lanes() < lane {
-        return Ok(None);
-    }
-    if !runtime.can_step(lane) {
-        return Ok(None);
-    }
-    let entry = runtime.step(alloc, lane, servants)?;
-    Ok(Some(entry))
-}
-
 // Makes the entry of the schedule without picks: of the first lane that can step from the one behind `last`
 // on, or of the clock where no lane can. The only error is want of memory.
 #[tactic(auto, using(crate::proofs::Entries::lane_scheduled, crate::proofs::Entries::clock_scheduled, com_runtime::proofs::Choices::not_runs, com_runtime::proofs::Limits::not_finished, com_runtime::proofs::Limits::not_stuck))]
@@ -97,10 +61,7 @@ fn step_schedule<C: Runtime>(
     last: u32,
     servants: &mut Vec<Box<dyn Servant + Send>>,
 ) -> Result<Entry, Memory>
-    requires standing { standing ≡ standing_of (C.scenario runtime.old) (C.state runtime.old) }
-    requires goes_on { ended_now (C.scenario runtime.old) (C.state runtime.old) ≡ None }
-    requires room { (C.state runtime.old).entries < limit (C.scenario runtime.old) }
-    requires reached { Reached (C.scenario runtime.old) (C.state runtime.old) }
+    requires goes_on { Ongoing (C.scenario runtime.old) (C.state runtime.old) standing }
     requires last { last ≤ lanes (C.scenario runtime.old) }
     requires row { map kind_of servants.old.items ≡ row }
     ensures { IfOk result (λ e. IsScheduled (C.scenario runtime.old) (C.state runtime.old) last e
@@ -206,25 +167,20 @@ impl Judge {
         Ok(Some(judged))
     }
 
-    // Judges a found line in the place of an entry: makes the next entry of the lane that it names. Nothing,
-    // where it is the line of that entry. The only error is want of memory.
-    fn turn<C: Runtime>(
+    // Judges a found line in the place of an entry that no lane made: only the clock's line may stand there.
+    // Nothing, where it is that line, whose entry was made. The only error is want of memory.
+    fn clock_turn<C: Runtime>(
         &mut self,
         alloc: Global,
         version: u8,
         runtime: &mut C,
         standing: Standing,
         found: &[u8],
-        servants: &mut Vec<Box<dyn Servant + Send>>,
     ) -> Result<Option<Judged>, Memory>
         requires version { version ≡ (C.scenario runtime.old).version }
-        requires standing { standing ≡ standing_of (C.scenario runtime.old) (C.state runtime.old) }
-        requires goes_on { ended_now (C.scenario runtime.old) (C.state runtime.old) ≡ None }
-        requires room { (C.state runtime.old).entries < limit (C.scenario runtime.old) }
-        requires reached { Reached (C.scenario runtime.old) (C.state runtime.old) }
-        requires row { map kind_of servants.old.items ≡ row }
+        requires goes_on { Ongoing (C.scenario runtime.old) (C.state runtime.old) standing }
+        requires no_lane { NamesNoLane (C.scenario runtime.old) (C.state runtime.old) found.now }
         ensures scenario { C.scenario runtime.new ≡ C.scenario runtime.old }
-        ensures row { map kind_of servants.new.items ≡ row }
         ensures turn { IfOk result (λ turn. IsTurn (C.scenario runtime.old)
             (C.state runtime.old) self.old.last found.now turn
             (C.state runtime.new) self.new.last) }
@@ -233,11 +189,14 @@ impl Judge {
         let Some(lane) = lane_of(found) else {
             return no_entry(alloc, entries, found);
         };
-        let Some(entry) = next_of(alloc, runtime, standing, lane, servants)? else {
+        if lane > 0 {
+            return no_entry(alloc, entries, found);
+        }
+        let Some(entry) = clock_entry(runtime, standing)? else {
             return no_entry(alloc, entries, found);
         };
         self.write(alloc, version, entries + 1, &entry)?;
-        self.compare_line(alloc, entries + 1, lane, found)
+        self.compare_line(alloc, entries + 1, 0, found)
     }
 
     // Judges the end of a trace in the place of an entry: the legal line is that of the schedule's entry.
@@ -251,10 +210,7 @@ impl Judge {
         servants: &mut Vec<Box<dyn Servant + Send>>,
     ) -> Result<Judged, Memory>
         requires version { version ≡ (C.scenario runtime.old).version }
-        requires standing { standing ≡ standing_of (C.scenario runtime.old) (C.state runtime.old) }
-        requires goes_on { ended_now (C.scenario runtime.old) (C.state runtime.old) ≡ None }
-        requires room { (C.state runtime.old).entries < limit (C.scenario runtime.old) }
-        requires reached { Reached (C.scenario runtime.old) (C.state runtime.old) }
+        requires goes_on { Ongoing (C.scenario runtime.old) (C.state runtime.old) standing }
         requires last { self.old.last ≤ lanes (C.scenario runtime.old) }
         requires row { map kind_of servants.old.items ≡ row }
         ensures { IfOk result (λ j. IsOther (C.scenario runtime.old)
@@ -267,9 +223,9 @@ impl Judge {
     }
 
     // Makes the next entry of the lane that a found line names, where there is room for one and the lane can
-    // step, and writes its line. The answer is the lane. Else nothing has changed. The only error is want of
-    // memory.
-    #[tactic(auto, using(com_runtime::proofs::Resting::same_reached, crate::proofs::Judging::lane_still))]
+    // step, and writes its line. The answer is the lane. Else nothing has changed, and no lane makes the line's
+    // entry. The only error is want of memory.
+    #[tactic(auto, using(com_runtime::proofs::Resting::same_reached, crate::proofs::Judging::without_room, crate::proofs::Judging::names_clock, crate::proofs::Judging::names_above, crate::proofs::Judging::names_waiting))]
     fn try_named<C: Tries>(
         &mut self,
         alloc: Global,
@@ -278,8 +234,7 @@ impl Judge {
         found: &[u8],
         servants: &mut Vec<Box<dyn Servant + Send>>,
     ) -> Result<Option<u32>, Memory>
-        requires scenario { C.scenario runtime.old ≡ scenario.now }
-        requires reached { Reached scenario.now (C.state runtime.old) }
+        requires under_way { IsUnderWay scenario.now (C.scenario runtime.old) (C.state runtime.old) }
         requires row { map kind_of servants.old.items ≡ row }
         ensures scenario { C.scenario runtime.new ≡ scenario.now }
         ensures row { map kind_of servants.new.items ≡ row }
@@ -310,7 +265,7 @@ impl Judge {
 
     // Judges a found line by how the history stands, where no lane made its entry. The only error is want of
     // memory.
-    #[tactic(auto, using(com_runtime::proofs::Resting::same_reached, crate::proofs::Judging::below_at))]
+    #[tactic(auto, using(com_runtime::proofs::Resting::same_reached))]
     fn by_standing<C: Runtime>(
         &mut self,
         alloc: Global,
@@ -318,14 +273,11 @@ impl Judge {
         runtime: &mut C,
         rest: &[u8],
         found: &[u8],
-        servants: &mut Vec<Box<dyn Servant + Send>>,
     ) -> Result<Option<Judged>, Memory>
-        requires scenario { C.scenario runtime.old ≡ scenario.now }
-        requires reached { Reached scenario.now (C.state runtime.old) }
-        requires few { (C.state runtime.old).entries ≤ limit scenario.now }
-        requires row { map kind_of servants.old.items ≡ row }
+        requires under_way { IsUnderWay scenario.now (C.scenario runtime.old) (C.state runtime.old) }
+        requires no_lane { (C.state runtime.old).entries < limit scenario.now
+            → NamesNoLane scenario.now (C.state runtime.old) found.now }
         ensures scenario { C.scenario runtime.new ≡ scenario.now }
-        ensures row { map kind_of servants.new.items ≡ row }
         ensures line { IfOk result (λ turn. IsLine scenario.now (C.state runtime.old) self.old.last rest.now
             found.now turn (C.state runtime.new) self.new.last) }
     {
@@ -334,12 +286,11 @@ impl Judge {
             let judged = judge_report(alloc, scenario, runtime, ended, rest)?;
             return Ok(Some(judged));
         }
-        self.turn(alloc, scenario.version, runtime, standing, found, servants)
+        self.clock_turn(alloc, scenario.version, runtime, standing, found)
     }
 
     // Judges a found line, which is the first of what the trace has left. Nothing, where it is the line of an
     // entry, which was made. The only error is want of memory.
-    #[tactic(auto, using(crate::proofs::Judging::untried, crate::proofs::Judging::state_reached, crate::proofs::Judging::state_few))]
     fn judge_line<C: Tries>(
         &mut self,
         alloc: Global,
@@ -349,9 +300,7 @@ impl Judge {
         found: &[u8],
         servants: &mut Vec<Box<dyn Servant + Send>>,
     ) -> Result<Option<Judged>, Memory>
-        requires scenario { C.scenario runtime.old ≡ scenario.now }
-        requires reached { Reached scenario.now (C.state runtime.old) }
-        requires few { (C.state runtime.old).entries ≤ limit scenario.now }
+        requires under_way { IsUnderWay scenario.now (C.scenario runtime.old) (C.state runtime.old) }
         requires row { map kind_of servants.old.items ≡ row }
         ensures scenario { C.scenario runtime.new ≡ scenario.now }
         ensures row { map kind_of servants.new.items ≡ row }
@@ -359,7 +308,7 @@ impl Judge {
             found.now turn (C.state runtime.new) self.new.last) }
     {
         let Some(lane) = self.try_named(alloc, scenario, runtime, found, servants)? else {
-            return self.by_standing(alloc, scenario, runtime, rest, found, servants);
+            return self.by_standing(alloc, scenario, runtime, rest, found);
         };
         let place = runtime.entries();
         self.compare_line(alloc, place, lane, found)
@@ -367,7 +316,7 @@ impl Judge {
 
     // Judges the end of a trace: it is in the place of the report, or of an entry. The only error is want of
     // memory.
-    #[tactic(auto, using(com_runtime::proofs::Resting::same_reached, crate::proofs::Judging::below_at))]
+    #[tactic(auto, using(com_runtime::proofs::Resting::same_reached))]
     fn judge_end<C: Runtime>(
         &mut self,
         alloc: Global,
@@ -376,9 +325,7 @@ impl Judge {
         rest: &[u8],
         servants: &mut Vec<Box<dyn Servant + Send>>,
     ) -> Result<Judged, Memory>
-        requires scenario { C.scenario runtime.old ≡ scenario.now }
-        requires reached { Reached scenario.now (C.state runtime.old) }
-        requires few { (C.state runtime.old).entries ≤ limit scenario.now }
+        requires under_way { IsUnderWay scenario.now (C.scenario runtime.old) (C.state runtime.old) }
         requires last { self.old.last ≤ lanes scenario.now }
         requires row { map kind_of servants.old.items ≡ row }
         ensures { IfOk result (λ j. IsLast scenario.now (C.state runtime.old) self.old.last rest.now None

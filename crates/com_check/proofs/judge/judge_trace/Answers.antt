@@ -1,7 +1,7 @@
 use Rattle.std.proofs.Common.{◌≡◌, [], arith, rules}
 use Rattle.std.proofs.lemmas.Grind.{common_steps}
 use Rattle.std.proofs.lemmas.Result.{IfOk-weaker}
-use Rattle.com_check.proofs.Judging.{first_sofar, judged_end, judged_line, more_sofar, sofar_last, sofar_reached, sofar_within, when_on}
+use Rattle.com_check.proofs.Judging.{first_sofar, judged_end, judged_line, more_sofar, sofar_last, sofar_under_way, when_on}
 use Rattle.com_check.proofs.judge.judge_trace.Goals as goal
 
 pub lines-init : goal.lines-init
@@ -11,11 +11,8 @@ lines-init g c = record {
   kinds = c.requires.row;
 }
 
-pub judge_line-requires-clause-reached : goal.judge_line-requires-clause-reached
-judge_line-requires-clause-reached g c = sofar_reached _ _ _ _ _ c.requires.formed c.lines.invariant.sofar
-
-pub judge_line-requires-clause-few : goal.judge_line-requires-clause-few
-judge_line-requires-clause-few g c = sofar_within _ _ _ _ _ c.lines.invariant.sofar
+pub judge_line-requires-clause-under_way : goal.judge_line-requires-clause-under_way
+judge_line-requires-clause-under_way g c = sofar_under_way _ _ _ _ _ _ c.requires.formed c.lines.invariant.sofar c.lines.invariant.same
 
 pub returns-in-Some : goal.returns-in-Some
 returns-in-Some g c =
@@ -33,11 +30,8 @@ lines-preserved g c =
       kinds = c.in_ok-judged.ensures.row;
     }
 
-pub judge_end-requires-clause-reached : goal.judge_end-requires-clause-reached
-judge_end-requires-clause-reached g c = sofar_reached _ _ _ _ _ c.requires.formed c.lines.invariant.sofar
-
-pub judge_end-requires-clause-few : goal.judge_end-requires-clause-few
-judge_end-requires-clause-few g c = sofar_within _ _ _ _ _ c.lines.invariant.sofar
+pub judge_end-requires-clause-under_way : goal.judge_end-requires-clause-under_way
+judge_end-requires-clause-under_way g c = sofar_under_way _ _ _ _ _ _ c.requires.formed c.lines.invariant.sofar c.lines.invariant.same
 
 pub judge_end-requires-clause-last : goal.judge_end-requires-clause-last
 judge_end-requires-clause-last g c = sofar_last _ _ _ _ _ c.lines.invariant.sofar
