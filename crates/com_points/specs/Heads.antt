@@ -1,8 +1,9 @@
 -- A line `source <name> <guid> <model>`, with the model `none` or `Apartment`: its form, or its first fault.
 use Rattle.std.specs.Prelude.{◌≡◌, ℕ, List, [], ◌∷◌, Option, Some, None, Result, Ok, Err, Bool, true, false}
-use Rattle.std.specs.Prelude.{◌&&◌, ◌||◌, ◌==◌, if◌then◌else◌, slice_get, codes}
+use Rattle.std.specs.Prelude.{◌&&◌, ◌||◌, if◌then◌else◌, slice_get, codes}
 use Rattle.std.specs.Str.{bytes_eq}
 use Rattle.com_base.specs.declared.guid.Guid.{Guid}
+use Rattle.com_classes.specs.Lookups.{same_guid}
 use Rattle.com_text.specs.Words.{WordAt}
 use Rattle.com_read_operands.specs.declared.faults.Fault.{Fault}
 use Rattle.com_read_operands.specs.declared.faults.ScenarioError.{ScenarioError}
@@ -51,9 +52,7 @@ cut_of line =
 -- Whether there is a GUID, and it is the IID of a source's interface.
 abbrev pub names_point : Option Guid → Bool
 names_point None = false
-names_point (Some g) =
-    (g.data1 == point_iid.data1) && (g.data2 == point_iid.data2) && (g.data3 == point_iid.data3)
-    && bytes_eq g.data4 point_iid.data4
+names_point (Some g) = same_guid g point_iid
 
 abbrev pub is_point_guid : Option WordAt → Bool
 is_point_guid None = false
