@@ -1,9 +1,9 @@
 -- From a turn and its line to a step of a stream: it makes the next entry of the one history, or the history has ended.
-use Rattle.std.proofs.Common.{sym, subst, ◌∙◌, ap, arith, inl, inr, append_assoc}
+use Rattle.std.proofs.Common.{sym, subst, ◌∙◌, ap, arith, inl, inr, append_assoc, append-nil}
 use Rattle.std.proofs.lemmas.List.{reverse-append, reverse-reverse}
 use Rattle.std.specs.Prelude.{◌≡◌, refl, ℕ, zero, suc, ◌+◌, ◌≤◌, List, [], ◌∷◌, ◌++◌, length, Option, Some, None, is_some, reverse}
 use Rattle.com_io.specs.Told.{Gains, GainsPrefix}
-use Rattle.com_io.proofs.Passing.{gains_both, gains_then_prefix, gains_nothing}
+use Rattle.com_io.proofs.Passing.{gains_then_prefix, gains_nothing}
 use Rattle.com_model.specs.declared.counts.Counts.{Counts}
 use Rattle.com_model.specs.declared.counts.Ended.{Ended}
 use Rattle.com_model.specs.declared.deeds.Deed.{Deed}
@@ -125,20 +125,25 @@ line-parts s m n e h none made q =
     ∙ ap (λ (xs : List ℕ). xs ++ next_line s m.state e) none
     ∙ line-same s m.state h e q.stands.entries
 
-pub made_goes : (s : Scenario) (m n : Moment) (e : Entry) (new : Option (List ℕ)) → IsMade s m n e → Gains n.held new n.lines → UnderWay (at s m) → m.lines ≡ []
-    → (h : List Entry) → StandsAt (at s m) h → GoesFurther s (at s n) h e m.held new m.steps n.steps
-made_goes s m n e new made gained u none h q =
+-- All of it was written, where none is kept.
+line-whole : (s : Scenario) (m n : Moment) (e : Entry) (h : List Entry) → m.lines ≡ [] → n.lines ≡ [] → (made : IsMade s m n e) → StandsAt (at s m) h
+    → made.line.written ≡ line_text s.version (length h + 1) e
+line-whole s m n e h none all made q =
+    sym (append-nil made.line.written) ∙ ap (λ (xs : List ℕ). made.line.written ++ xs) (sym all) ∙ line-parts s m n e h none made q
+
+pub made_goes : (s : Scenario) (m n : Moment) (e : Entry) → IsMade s m n e → n.lines ≡ [] → UnderWay (at s m) → m.lines ≡ []
+    → (h : List Entry) → StandsAt (at s m) h → GoesFurther s (at s n) h e m.held n.held m.steps n.steps
+made_goes s m n e made all u none h q =
     let on : StandsAt (at s n) (e ∷ h) = stands-on s m n e h u.formed made q in
     record {
       goes_on = ended-same s m.state h q.stands (within (at s m) h q) ∙ made.turn.goes_on;
       next = next-of-way s h e on.more n.picks n.last on.way;
       stands = on;
-      line = subst (λ (t : List ℕ). Gains m.held new t) (line-parts s m n e h none made q)
-          (gains_both m.held n.held new made.line.written n.lines made.line.gained gained);
+      line = subst (λ (t : List ℕ). Gains m.held n.held t) (line-whole s m n e h none all made q) made.line.gained;
       serves = made.steps ∙ served-same s m.state h e.lane m.steps q.stands;
     }
 
-pub made_broken : (s : Scenario) (m n : Moment) (e : Entry) (new : Option (List ℕ)) → IsMade s m n e → GainsPrefix n.held new n.lines → UnderWay (at s m) → m.lines ≡ []
+made_broken : (s : Scenario) (m n : Moment) (e : Entry) (new : Option (List ℕ)) → IsMade s m n e → GainsPrefix n.held new n.lines → UnderWay (at s m) → m.lines ≡ []
     → (h : List Entry) → StandsAt (at s m) h → BrokenOff s h m.held new
 made_broken s m n e new made begun u none h q =
     let on : StandsAt (at s n) (e ∷ h) = stands-on s m n e h u.formed made q in

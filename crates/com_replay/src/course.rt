@@ -14,7 +14,7 @@ ghost use Rattle.com_replay.specs.Steps.{Fails, IsLaneTurn, StepsTo, TurnsTo, mo
 ghost use Rattle.com_replay.specs.Streams.{Advances, BrokenOff, StandsAt, UnderWay, position};
 
 use crate::finish::finish;
-use crate::lines::{PIECE, ReplayError, send, show};
+use crate::lines::{ReplayError, show};
 use crate::replayed::Replayed;
 use com_base::{ByteList, Memory};
 use com_io::Sink;
@@ -33,11 +33,8 @@ pub enum Turned {
     Over(Ended),
 }
 
-// Room for the lines that are written together, and for a long one behind them.
-const ROOM: usize = 2 * PIECE;
-
 /// Where the schedule stands: how many picks were tried, and the last lane but the clock's, or 0. And the
-/// lines that were made and are not written yet.
+/// list in which a line is made, which is empty between two steps.
 #[derive(Debug, Drop)]
 pub struct Course {
     tried: usize,
@@ -57,20 +54,6 @@ impl Course {
             last: 0,
             lines: ByteList::new(alloc),
         }
-    }
-
-    /// Before the first turn, with room for many lines, which is taken at once. The only error is
-    /// want of memory.
-    pub fn with_room(alloc: Global) -> Result<Course, Memory>
-        ensures tried { IfOk result (λ course. course.tried ≡ 0) }
-        ensures last { IfOk result (λ course. course.last ≡ 0) }
-        ensures lines { IfOk result (λ course. course.lines ≡ []) }
-    {
-        Ok(Course {
-            tried: 0,
-            last: 0,
-            lines: ByteList::from_vec(Vec::with_capacity(alloc, ROOM)?),
-        })
     }
 
     // Has the lane whose turn it is make its entry, where there is room for one and a lane can step.
@@ -171,6 +154,7 @@ impl Course {
         ensures reached { OnOk result (Reached scenario.now (C.state runtime.new)) }
         ensures last { self.new.last ≤ lanes scenario.now }
         ensures row { map kind_of servants.new.items ≡ row }
+        ensures none { OnOk result (self.old.lines ≡ [] → self.new.lines ≡ []) }
         ensures step { IfOk result (λ step. StepsTo scenario.now
             (moment_of scenario.now (C.state runtime.old) self.old (K.held sink.old)
             (map stepped servants.old.items))
@@ -274,10 +258,7 @@ impl Course {
         ensures counts { K.faults_of sink.old ≤ K.faults_of sink.new }
     {
         match self.step(alloc, scenario, runtime, servants, sink)? {
-            Turned::Made => {
-                send(&mut self.lines, sink)?;
-                Ok(None)
-            }
+            Turned::Made => Ok(None),
             Turned::Over(ended) => {
                 let replayed = finish(alloc, scenario, runtime, ended, &mut self.lines, sink)?;
                 Ok(Some(replayed))

@@ -46,7 +46,7 @@ pub fn drive<C: Tries, K: Sink>(
         → Rose (K.faults_of sink.old) (K.faults_of sink.new) }
     ensures counts { K.faults_of sink.old ≤ K.faults_of sink.new }
 {
-    let mut course = Course::with_room(alloc)?;
+    let mut course = Course::new(alloc);
     'turns: loop {
         let step = course.step(alloc, scenario, runtime, servants, sink)?;
         if let Some(ended) = over(step) {

@@ -1,4 +1,4 @@
-//! The lines of entries and the report: they are gathered, and written to the sink in large pieces.
+//! The lines of entries and the report.
 ghost use Rattle.std.specs.Prelude.{◌≡◌, ◌≤◌, ◌++◌, [], OnOk, OnErr, IfErr, Err};
 ghost use Rattle.com_io.specs.Faults.{Rose};
 ghost use Rattle.com_io.specs.Told.{Gains, GainsPrefix};
@@ -32,11 +32,8 @@ impl From<AllocError> for ReplayError {
     }
 }
 
-/// Lines are written together once they have this many bytes.
-pub const PIECE: usize = 32_768;
-
-/// Adds the line of an entry to those that are kept, and writes them once they are many.
-#[tactic(auto, using(com_io::proofs::Passing::prefix_of_none, crate::proofs::Kept::goes_on_kept, crate::proofs::Kept::goes_on_sent, crate::proofs::Kept::sent_prefix))]
+/// Adds the line of an entry to what is kept, and writes it.
+#[tactic(auto, using(com_io::proofs::Passing::prefix_of_none, crate::proofs::Kept::goes_on_sent, crate::proofs::Kept::sent_prefix))]
 pub fn show<K: Sink>(
     alloc: Global,
     version: u8,
@@ -47,6 +44,7 @@ pub fn show<K: Sink>(
 ) -> Result<(), ReplayError>
     ensures ok { OnOk result (GoesOn (K.held sink.old) (K.held sink.new) kept.old kept.new
         (line_text version place entry.now)) }
+    ensures empty { OnOk result (kept.new ≡ []) }
     ensures prefix { GainsPrefix (K.held sink.old) (K.held sink.new)
         (kept.old ++ line_text version place entry.now) }
     ensures memory { result ≡ Err replay_error.Memory → K.held sink.new ≡ K.held sink.old }
@@ -55,9 +53,6 @@ pub fn show<K: Sink>(
     ensures counts { K.faults_of sink.old ≤ K.faults_of sink.new }
 {
     line(alloc, version, place, entry, kept)?;
-    if kept.len() < PIECE {
-        return Ok(());
-    }
     send(kept, sink)
 }
 

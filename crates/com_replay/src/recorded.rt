@@ -92,7 +92,7 @@ fn keep_by<C: Tries, K: Sink>(
         → Rose (K.faults_of sink.old) (K.faults_of sink.new) }
     ensures counts { K.faults_of sink.old ≤ K.faults_of sink.new }
 {
-    let mut course = Course::with_room(alloc)?;
+    let mut course = Course::new(alloc);
     let mut entries = Vec::new(alloc);
     'turns: loop {
         match course.step(alloc, scenario, runtime, servants, sink)? {

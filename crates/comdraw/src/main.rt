@@ -1,8 +1,11 @@
 //! `comdraw`: the program over the call that draws. All that it prints goes to the standard output.
 #![tactic(auto)]
 
-ghost use Rattle.std.specs.Prelude.{◌≡◌, IfOk, OnErr, OnOk, map, string_bytes};
-ghost use Rattle.com_commands.specs.Statuses.{sides_of, sides_without_source};
+ghost use Rattle.std.specs.Prelude.{◌≡◌, ◌⊎◌, IfOk, OnErr, OnOk, map, string_bytes};
+ghost use Rattle.com_commands.specs.declared.statuses.Status.TheVariants as exit;
+ghost use Rattle.com_commands.specs.Statuses.{code_of, sides_of, sides_without_source};
+ghost use Rattle.com_io.specs.Faults.{Rose};
+ghost use Rattle.com_io.specs.Told.{Gains};
 ghost use Rattle.com_command_draw.specs.Commands.{Answered, ReadsNone};
 ghost use Rattle.com_command_draw.specs.Words.{request_of};
 
@@ -10,6 +13,7 @@ use com_base::Memory;
 use com_command_draw::draw_main;
 use com_commands::Status;
 use com_io::{Sink, Source, StdSink, StdSource};
+use com_pieces::Pieces;
 use com_replay::fresh_row;
 use std::alloc::{AllocError, Global};
 use std::env;
@@ -17,17 +21,31 @@ use std::io::ErrorKind;
 use std::process::ExitCode;
 
 // Does what the words behind the program's name ask for, and ends with the status of that. Want of
-// memory for the words or for the row of servants has a status of its own.
+// memory for the words, the pieces or the row of servants has a status of its own.
 fn main(rt: HostRuntime) -> ExitCode {
-    let words = match words_of(&rt) {
-        Ok(words) => words,
-        Err(_) => return ExitCode::from(Status::Memory.code()),
-    };
-    let mut source = StdSource::new(rt.stdin());
-    let mut sink = StdSink::new(rt.stdout());
-    match serve(rt.alloc(), words.as_slice(), &mut source, &mut sink) {
+    match status(&rt) {
         Ok(status) => ExitCode::from(status),
         Err(_) => ExitCode::from(Status::Memory.code()),
+    }
+}
+
+// Does what the words ask for. What is written is gathered in pieces. The only error is want of memory.
+fn status(rt: &HostRuntime) -> Result<u8, Memory> {
+    let words = words_of(rt)?;
+    let mut source = StdSource::new(rt.stdin());
+    let mut sink = Pieces::new(rt.alloc(), StdSink::new(rt.stdout()))?;
+    let status = serve(rt.alloc(), words.as_slice(), &mut source, &mut sink)?;
+    Ok(handed_on(&mut sink, status))
+}
+
+// The status once the last piece is handed on: that of a write fault where it could not be.
+fn handed_on<K: Sink + Drop>(sink: &mut Pieces<K>, status: u8) -> u8
+    ensures { ((result ≡ status) × Gains (K.held sink.old.sink) (K.held sink.new.sink) sink.old.kept)
+        ⊎ ((result ≡ code_of exit.WriteFault) × Rose (K.faults_of sink.old.sink) (K.faults_of sink.new.sink)) }
+{
+    match sink.flush() {
+        Ok(()) => status,
+        Err(_) => Status::WriteFault.code(),
     }
 }
 

@@ -7,10 +7,10 @@ use Rattle.com_replay.proofs.recorded.keep_by.Goals as goal
 
 pub turns-init : goal.turns-init
 turns-init g c = record {
-  driving = driving_start_at c.args.scenario.now _ _ _ _ _ _ c.requires.first c.in_ok-course.ensures.tried c.in_ok-course.ensures.last c.in_ok-course.ensures.lines;
-  recording = recording_starts c.args.scenario.now _ _ _ _ c.requires.first c.in_ok-course.ensures.tried c.in_ok-course.ensures.last c.new-entries.ensures.items;
+  driving = driving_start_at c.args.scenario.now _ _ _ _ _ _ c.requires.first c.new-course.ensures.tried c.new-course.ensures.last c.new-course.ensures.lines;
+  recording = recording_starts c.args.scenario.now _ _ _ _ c.requires.first c.new-course.ensures.tried c.new-course.ensures.last c.new-entries.ensures.items;
   same = c.requires.scenario;
-  last = omega (arith, c.in_ok-course.ensures.last);
+  last = omega (arith, c.new-course.ensures.last);
   kinds = c.requires.row;
   faults = omega arith;
 }
