@@ -26,6 +26,7 @@ ghost use Rattle.com_calls.specs.Steps.{taken_at, grown_at, out_entry, is_known,
 use crate::rows::{CallRow, Cut, Issued};
 use crate::{later, rows, waits};
 use com_base::{HOST_STA, HResult, Memory, Rows, Value};
+use com_exchange::Message;
 use com_filter::Verdict;
 use com_inbox::Inbox;
 use com_model::{Admission, Deed, Ending, Issue, Leaving, Phase, Route};
@@ -374,13 +375,14 @@ impl Calls {
         }
     }
 
-    /// The values that a call sends, until it is entered or answered; then none.
-    pub fn unread_values(&self, call: u32) -> &[Value]
-        ensures { result.now ≡ from_one self.now.tables.unread call [] }
+    /// Reads what a call sends, until it is entered or answered; then there are no values. The only error is
+    /// want of memory.
+    pub fn read_values(&self, alloc: Global, call: u32) -> Result<Rows<Value>, Memory>
+        ensures { IfOk result (λ values. values ≡ from_one self.now.tables.unread call []) }
     {
         match rows::row_of(&self.rows, call) {
-            None => &[],
-            Some(row) => row.unread_values(),
+            None => Ok(Rows::new(alloc)),
+            Some(row) => row.read_values(alloc),
         }
     }
 
@@ -411,9 +413,8 @@ impl Calls {
         self.causes
     }
 
-    /// Takes the values that a call sends, for its Enter entry. It takes no memory, and the call keeps none
-    /// of them.
-    pub fn take_values(&mut self, alloc: Global, call: u32) -> Rows<Value>
+    /// Takes what a call sends, for its Enter entry. It takes no memory, and the call keeps nothing of it.
+    pub fn take_values(&mut self, alloc: Global, call: u32) -> Message
         ensures values { result ≡ from_one self.old.tables.unread call [] }
         ensures taken { self.new ≡ with_tables self.old (taken_at self.old.tables call) }
     {

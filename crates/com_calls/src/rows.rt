@@ -1,6 +1,6 @@
 //! A row for each call, and what an entry changes in one row.
 
-ghost use Rattle.std.specs.Prelude.{◌≡◌, ◌&&◌, false, is_none, is_some, map, []};
+ghost use Rattle.std.specs.Prelude.{◌≡◌, ◌&&◌, false, is_none, is_some, map, [], IfOk};
 ghost use Rattle.com_model.specs.Endings.{is_leave};
 ghost use Rattle.com_calls.specs.Rows.{changed_row, admitting, ending_by, left_with, returning, phased};
 ghost use Rattle.com_calls.specs.Rows.{taken, new_row_of, row_at, reaches, late_of, late_row};
@@ -9,7 +9,8 @@ ghost use Rattle.com_model.specs.Lists.{from_one, or_else};
 ghost use Rattle.com_model.specs.Places.{left_value};
 ghost use Rattle.std.specs.Option.{option_copied};
 
-use com_base::{HResult, Rows, Value};
+use com_base::{HResult, Memory, Rows, Value};
+use com_exchange::Message;
 use com_model::{Admission, Ending, Issue, Leaving, Phase, Route};
 use std::alloc::Global;
 use std::marker::Model;
@@ -19,8 +20,8 @@ use std::mem;
 // Leave that comes after the answer stands apart.
 #[derive(Debug, Drop)]
 enum Fate {
-    /// No answer is fixed, and these values are not read yet.
-    Sent(Rows<Value>),
+    /// No answer is fixed, and this is not read yet.
+    Sent(Message),
     /// No answer is fixed, and what it sent is let go.
     Open,
     /// This fixed its answer.
@@ -86,14 +87,13 @@ impl Model for CallRow {
     } };
 }
 
-/// What a call has at its Out entry: the refusal, or S_OK, the values that it sends, and its target's
-/// apartment.
+/// What a call has at its Out entry: what it sends, the refusal, or S_OK, and its target's apartment.
 #[derive(Debug, Drop)]
 pub struct Issued {
+    /// What it sends: values, or the bytes that say them.
+    pub values: Message,
     /// The refusal, or S_OK.
     pub refusal: HResult,
-    /// The values that it sends.
-    pub values: Rows<Value>,
     /// Its target's apartment.
     pub apartment: u32,
 }
@@ -218,13 +218,13 @@ impl CallRow {
         self.refusal
     }
 
-    /// What it sends, until that is let go.
-    pub fn unread_values(&self) -> &[Value]
-        ensures { result.now ≡ self.now.unread }
+    /// Reads what it sends, until that is let go. The only error is want of memory.
+    pub fn read_values(&self, alloc: Global) -> Result<Rows<Value>, Memory>
+        ensures { IfOk result (λ values. values ≡ self.now.unread) }
     {
         match &self.fate {
-            Fate::Sent(values) => values.as_slice(),
-            _ => &[],
+            Fate::Sent(message) => message.read(alloc),
+            _ => Ok(Rows::new(alloc)),
         }
     }
 
@@ -314,14 +314,14 @@ impl CallRow {
         None
     }
 
-    // The values of the call are taken away. It takes no memory.
-    fn take(&mut self, alloc: Global) -> Rows<Value>
+    // What the call sends is taken away. It takes no memory.
+    fn take(&mut self, alloc: Global) -> Message
         ensures row { self.new ≡ taken self.old }
         ensures values { result ≡ self.old.unread }
     {
         match &mut self.fate {
-            Fate::Sent(values) => mem::replace(values, Rows::new(alloc)),
-            _ => Rows::new(alloc),
+            Fate::Sent(message) => mem::replace(message, Message::of_values(Rows::new(alloc))),
+            _ => Message::of_values(Rows::new(alloc)),
         }
     }
 
@@ -412,14 +412,14 @@ pub fn phase(rows: &mut [CallRow], call: u32, phase: Phase)
     rows[call as usize - 1].set_phase(phase);
 }
 
-/// The values of a call are taken away. It takes no memory.
+/// What a call sends is taken away. It takes no memory.
 #[tactic(auto, using(crate::proofs::Changed::changed_past, crate::proofs::Changed::changed_none, crate::proofs::RowReads::read_past, crate::proofs::RowReads::read_none))]
-pub fn take(rows: &mut [CallRow], alloc: Global, call: u32) -> Rows<Value>
+pub fn take(rows: &mut [CallRow], alloc: Global, call: u32) -> Message
     ensures rows { rows.new ≡ changed_row taken call rows.old }
     ensures values { result ≡ from_one (map (λ r. r.unread) rows.old) call [] }
 {
     if call == 0 || call as usize > rows.len() {
-        return Rows::new(alloc);
+        return Message::of_values(Rows::new(alloc));
     }
     rows[call as usize - 1].take(alloc)
 }

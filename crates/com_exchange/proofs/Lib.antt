@@ -2,3 +2,4 @@ mod Streams
 mod Sendings
 mod Previewing
 pub mod Receivings
+pub mod Ranging

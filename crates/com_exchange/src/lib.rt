@@ -4,12 +4,15 @@
 #![tactic(auto)]
 
 pub mod laws;
+mod message;
 mod preview;
+mod ranges;
 mod receiving;
 mod sending;
 mod writing;
 
 pub use com_base::Memory;
+pub use message::Message;
 pub use preview::{Outgoing, packet_refs};
 pub use receiving::{Request, RequestError, read_request};
 pub use sending::{Connections, references_in, sent_result, sent_value, sent_values};

@@ -142,7 +142,7 @@ fn put_value(
 }
 
 // How many packets a value needs.
-fn packets_of(value: &Value) -> usize
+pub(crate) fn packets_of(value: &Value) -> usize
     ensures value { result ≡ packets_of value.now }
     ensures few { result ≤ 1 }
 {
@@ -153,7 +153,7 @@ fn packets_of(value: &Value) -> usize
 }
 
 // The packet with this number, from 0.
-fn packet_at(packets: &[StdFields], at: usize) -> Option<&StdFields>
+pub(crate) fn packet_at(packets: &[StdFields], at: usize) -> Option<&StdFields>
     ensures { option_copied result ≡ slice_get packets.now at }
 {
     packets.get(at)

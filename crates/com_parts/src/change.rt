@@ -1,16 +1,17 @@
 //! One entry, with what the parts need to know of it.
 
-use com_base::{HResult, Rows, Value};
+use com_base::{HResult, Value};
+use com_exchange::Message;
 use com_model::Deed;
 use com_scene::Actor;
 
-/// What a call has at its Out entry: the refusal, or S_OK, and the values that it sends.
+/// What a call has at its Out entry: what it sends, and the refusal, or S_OK.
 #[derive(Debug, Drop)]
 pub struct Sent {
+    /// What it sends: values, or the bytes that say them.
+    pub values: Message,
     /// The refusal, or S_OK.
     pub refusal: HResult,
-    /// The values that it sends.
-    pub values: Rows<Value>,
 }
 
 /// An entry of a lane, with what the parts need to know of it.
@@ -47,14 +48,14 @@ pub struct Begun {
 pub struct Calling {
     /// What the call has that the entry issues, where it is an Out.
     pub issued: Option<Sent>,
-    /// The apartment of that call's target, and 0 where the entry issues none.
-    pub apartment: u32,
     /// The value of a Leave.
     pub value: Option<Value>,
+    /// The clock before the entry, in milliseconds.
+    pub clock: u64,
+    /// The apartment of that call's target, and 0 where the entry issues none.
+    pub apartment: u32,
     /// Whether the lane ran no body before the entry.
     pub is_outermost: bool,
     /// Whether the caller's lane has a message filter, as the change says.
     pub has_filter: bool,
-    /// The clock before the entry, in milliseconds.
-    pub clock: u64,
 }

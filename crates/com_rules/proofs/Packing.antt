@@ -15,10 +15,11 @@ use Rattle.com_refs_books.specs.declared.keeps.Packet.{Packet}
 use Rattle.com_refs_books.specs.Counting.{numbers_from}
 use Rattle.com_exchange.specs.declared.preview.Outgoing.{Outgoing}
 use Rattle.com_exchange.specs.Previews.{IsOutgoing, reference_of, refs_in, refs_of}
+use Rattle.com_exchange.specs.Received.{reference_in_fields}
 use Rattle.com_model.specs.declared.scenario.Scenario.{Scenario}
 use Rattle.com_model.specs.Deeds.{packet_fields, fields_since}
 use Rattle.com_model.specs.Sight.{Sight}
-use Rattle.com_rules.specs.Packets.{refs_made, field_of, fields_from}
+use Rattle.com_rules.specs.Packets.{AllConnected, refs_made, field_of, fields_from}
 
 -- ---- one packet
 
@@ -267,3 +268,24 @@ take_past (r ∷ rs) (suc i) past = ap (λ (l : List RefValue). r ∷ l) (take_p
 pub rows_all : (carried : List RefValue) (i : ℕ) (rows : List Outgoing) → length carried ≤ i
     → map reference_of rows ≡ take i carried → map reference_of rows ≡ carried
 rows_all carried i rows past e = e ∙ take_past carried i past
+
+-- ---- what their fields name
+
+abbrev pub AreConnected : List Outgoing → Type 0
+AreConnected [] = Unit {0}
+AreConnected (x ∷ xs) = (x.is_connected ≡ true) × AreConnected xs
+
+pub all_are_connected : (owned : ℕ → ℕ → Bool) (b : Books) (a : ℕ) (xs : List Outgoing) → AllByRecursion (IsOutgoing owned b a) xs
+    → AllConnected b.live (map reference_of xs) → AreConnected xs
+all_are_connected owned b a [] all live = tt
+all_are_connected owned b a (x ∷ xs) all live = (sym all.0.connected ∙ live.0, all_are_connected owned b a xs all.1 live.1)
+
+pub fields_name : (s : Scenario) (v : Sight) (made : ℕ) (refs : List ℕ) (xs : List Outgoing) (k : ℕ) → AreConnected xs
+    → map reference_in_fields (fields_from s v made refs xs k) ≡ map reference_of xs
+fields_name s v made refs [] k p = refl
+fields_name s v made refs (x ∷ xs) k p =
+    let connected : x.is_connected ≡ true = p.0 in
+    let here : fields_from s v made refs (x ∷ xs) k
+    ≡ packet_fields s v (new_packet marshal.Normal x.object x.iface (slice_index_or refs k 0)) (made + 1 + k) ∷ fields_from s v made refs xs (k + 1) = rw connected refl in
+    ap (map reference_in_fields) here
+    ∙ ap (λ (l : List RefValue). reference_of x ∷ l) (fields_name s v made refs xs (k + 1) p.1)

@@ -1,6 +1,7 @@
 -- The packets that an entry makes, before they are made.
-use Rattle.std.specs.Prelude.{ℕ, ◌+◌, Bool, if◌then◌else◌, List, [], ◌∷◌, slice_index_or}
+use Rattle.std.specs.Prelude.{◌≡◌, ℕ, ◌+◌, Bool, true, if◌then◌else◌, List, [], ◌∷◌, slice_index_or}
 use Rattle.com_base.specs.declared.standard.StdFields.{StdFields}
+use Rattle.com_base.specs.declared.value.RefValue.{RefValue}
 use Rattle.com_base.specs.declared.value.MarshalMode.{MarshalMode}
 use Rattle.com_base.specs.declared.value.MarshalMode.TheVariants as marshal
 use Rattle.com_refs_books.specs.Changes.{new_packet}
@@ -9,6 +10,11 @@ use Rattle.com_exchange.specs.Previews.{refs_of}
 use Rattle.com_model.specs.declared.scenario.Scenario.{Scenario}
 use Rattle.com_model.specs.Deeds.{packet_fields}
 use Rattle.com_model.specs.Sight.{Sight}
+
+-- The object of each reference is connected.
+abbrev pub AllConnected : (live : ℕ → Bool) → List RefValue → Type 0
+AllConnected live [] = Unit {0}
+AllConnected live (r ∷ rs) = (live r.object ≡ true) × AllConnected live rs
 
 -- The public references of a new packet: 1 in a strong one, none in a weak one.
 abbrev pub refs_made : MarshalMode → (owned : Bool) → (held : ℕ) → ℕ

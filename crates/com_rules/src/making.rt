@@ -6,9 +6,10 @@ ghost use Rattle.std.specs.List.{AllByRecursion};
 ghost use Rattle.com_body.specs.declared.actions.Action.TheVariants as action;
 ghost use Rattle.com_refs_books.specs.Changes.{Books, marshal_all, new_packet};
 ghost use Rattle.com_exchange.specs.Previews.{IsOutgoing, reference_of};
+ghost use Rattle.com_exchange.specs.Received.{reference_in_fields};
 ghost use Rattle.com_model.specs.Deeds.{deed_of, fields_since, marshalled, packet_fields, with_packets};
 ghost use Rattle.com_model.specs.Lists.{number_or_zero};
-ghost use Rattle.com_rules.specs.Packets.{refs_made, field_of, fields_from};
+ghost use Rattle.com_rules.specs.Packets.{AllConnected, refs_made, field_of, fields_from};
 ghost use Rattle.com_view.specs.Seen.{bare, sight_by, running_seen};
 
 use crate::alone::is_connected;
@@ -234,7 +235,8 @@ fn number_fields(
 }
 
 /// The fields of the packets that the lane's apartment makes of these references, in their order. What is not
-/// connected gets none. The only error is want of memory.
+/// connected gets none. The fields name the references, where all are connected. The only error is want of
+/// memory.
 pub fn fields_made<B: Found>(
     view: &View<'_>,
     books: &B,
@@ -242,10 +244,12 @@ pub fn fields_made<B: Found>(
     lane: u32,
     carried: &[RefValue],
 ) -> Result<Vec<StdFields>, Memory>
-    ensures { IfOk result (λ fields. fields.items
+    ensures made { IfOk result (λ fields. fields.items
         ≡ fields_since view.now.scenario (sight_by view.now (B.books books.now))
         (with_packets (sight_by view.now (B.books books.now)) lane
         (marshal_all (number_or_zero (running_seen view.now lane)) carried.now))) }
+    ensures named { IfOk result (λ fields. AllConnected (B.books books.now).live carried.now
+        → map reference_in_fields fields.items ≡ carried.now) }
 {
     let rows = all_outgoing(view, books, alloc, lane, carried)?;
     let refs = packet_refs(alloc, rows.as_slice())?;

@@ -1,12 +1,14 @@
 //! The entries that send values: the Out of a call, and the Leave of a body.
 
-ghost use Rattle.std.specs.Prelude.{◌≡◌, true, [], Option, Some, IfOk, option_copied};
+ghost use Rattle.std.specs.Prelude.{◌≡◌, ◌≤◌, true, [], All, Option, Some, IfOk, length, option_copied};
 ghost use Rattle.std.specs.Prelude.{if◌then◌else◌};
+ghost use Rattle.com_base.specs.declared.limits.TheConstants.{PARAMETER_LIMIT};
 ghost use Rattle.com_body.specs.declared.actions.Action.{Action};
 ghost use Rattle.com_body.specs.declared.actions.Action.TheVariants as action;
 ghost use Rattle.com_body.specs.declared.operands.Destination.{Destination};
 ghost use Rattle.com_refs_books.specs.Changes.{Books};
 ghost use Rattle.com_classes.specs.Lookups.{method_at};
+ghost use Rattle.com_exchange.specs.Messages.{CanTravel, TravelAs};
 ghost use Rattle.com_model.specs.declared.deeds.Deed.TheVariants as deed;
 ghost use Rattle.com_model.specs.Calls.{is_marshalled};
 ghost use Rattle.com_model.specs.Deeds.{deed_of, left_as, out_bytes, reply_for};
@@ -14,6 +16,7 @@ ghost use Rattle.com_model.specs.Issue.{or_ok};
 ghost use Rattle.com_model.specs.Tables.{parameters, result_kind};
 ghost use Rattle.com_model.specs.Values.{carried, result_list, sent_values};
 ghost use Rattle.com_rules.specs.Acts.{Issues, carried_by, route_or, target_number};
+ghost use Rattle.com_rules.specs.Packets.{AllConnected};
 ghost use Rattle.com_rules.specs.Room.{HasRoom};
 ghost use Rattle.com_view.specs.Seen.{bare, sight_by};
 
@@ -25,7 +28,7 @@ use crate::making::fields_made;
 use com_base::{ByteList, HResult, Kind, Memory, RefValue, Rows, Value};
 use com_calls::Issued;
 use com_deeds::{number_or_zero, object_in, out, refusal_or_ok};
-use com_exchange::{Connections, references_in, reply, request, sent_result, sent_values};
+use com_exchange::{Connections, Message, references_in, reply, request, sent_result, sent_values};
 use com_model::{Deed, Issue, Route};
 use com_view::{References, View};
 use std::alloc::Global;
@@ -73,6 +76,20 @@ pub struct Sending {
     pub carried: Rows<RefValue>,
 }
 
+// The arguments of a call: the kinds of the method's parameters, and a value of each.
+#[derive(Drop)]
+struct CallArguments<'a> {
+    kinds: &'a [Kind],
+    values: Rows<Value>,
+}
+
+// What goes with the Out of a call: what travels as bytes, and what the call sends.
+#[derive(Drop)]
+struct Requested {
+    sending: Sending,
+    message: Message,
+}
+
 // Of a call that is not marshalled nothing travels as bytes.
 fn nothing_sent(alloc: Global) -> Sending
     ensures bytes { result.bytes ≡ Option.None }
@@ -84,56 +101,81 @@ fn nothing_sent(alloc: Global) -> Sending
     }
 }
 
-// The arguments of a call as they travel.
+// The kinds of a method's parameters, and none where there is no such method.
+fn parameters<'a>(view: &View<'a>, iface: u16, method: u16) -> &'a [Kind]
+    ensures { result.now ≡ parameters (method_at view.now.scenario.classes iface method) }
+{
+    match view.scenario.classes.method(iface, method) {
+        Some(method) => method.params.as_slice(),
+        None => &[],
+    }
+}
+
+// The arguments of a call as they travel, one for each kind.
 fn arguments<B: Found>(
-    view: &View<'_>,
     books: &B,
     alloc: Global,
-    iface: u16,
-    method: u16,
+    kinds: &[Kind],
     is_marshalled: bool,
     args: &[Value],
 ) -> Result<Rows<Value>, Memory>
     ensures { IfOk result (λ values. values
-        ≡ sent_values is_marshalled (B.books books.now).live (parameters
-        (method_at view.now.scenario.classes iface method)) args.now) }
+        ≡ sent_values is_marshalled (B.books books.now).live kinds.now args.now) }
 {
-    match view.scenario.classes.method(iface, method) {
-        Some(method) => sent_values(
-            alloc,
-            is_marshalled,
-            &Connected { refs: books },
-            method.params.as_slice(),
-            args,
-        ),
-        None => Ok(Rows::new(alloc)),
+    sent_values(
+        alloc,
+        is_marshalled,
+        &Connected { refs: books },
+        kinds,
+        args,
+    )
+}
+
+// A call that is not marshalled sends the values themselves.
+fn nothing_requested(alloc: Global, values: Rows<Value>) -> Requested
+    ensures bytes { result.sending.bytes ≡ Option.None }
+    ensures carried { result.sending.carried ≡ [] }
+    ensures message { result.message ≡ values }
+{
+    Requested {
+        sending: nothing_sent(alloc),
+        message: Message::of_values(values),
     }
 }
 
-// The request of a call on a route that marshals.
+// The request of a call on a route that marshals. The call sends its bytes.
 fn request_with<B: Found>(
     view: &View<'_>,
     books: &B,
     alloc: Global,
     lane: u32,
     cause: u32,
+    kinds: &[Kind],
     values: &[Value],
-) -> Result<Sending, Memory>
-    ensures bytes { IfOk result (λ made. made.bytes
+) -> Result<Requested, Memory>
+    requires few { length kinds.now ≤ PARAMETER_LIMIT }
+    requires travel { TravelAs kinds.now values.now }
+    requires connected { AllConnected (B.books books.now).live (carried values.now) }
+    ensures bytes { IfOk result (λ made. made.sending.bytes
         ≡ out_bytes view.now.scenario (sight_by view.now
         (B.books books.now)) lane Route.Post cause values.now) }
-    ensures carried { IfOk result (λ made. made.carried ≡ carried values.now) }
+    ensures carried { IfOk result (λ made. made.sending.carried ≡ carried values.now) }
+    ensures message { IfOk result (λ made. made.message ≡ values.now) }
 {
     let held = references_in(alloc, values)?;
     let fields = fields_made(view, books, alloc, lane, held.as_slice())?;
     let bytes = request(alloc, cause, values, fields.as_slice())?;
-    Ok(Sending {
-        bytes: Some(bytes),
-        carried: Rows::from_vec(held),
+    let message = Message::of_request(alloc, cause, kinds, values, fields.as_slice(), &bytes)?;
+    Ok(Requested {
+        sending: Sending {
+            bytes: Some(bytes),
+            carried: Rows::from_vec(held),
+        },
+        message,
     })
 }
 
-// The request of a call, on the routes that marshal.
+// What goes with the Out of a call: a request, on the routes that marshal.
 fn request_on<B: Found>(
     view: &View<'_>,
     books: &B,
@@ -141,16 +183,25 @@ fn request_on<B: Found>(
     lane: u32,
     route: Route,
     cause: u32,
-    values: &[Value],
-) -> Result<Sending, Memory>
-    ensures bytes { IfOk result (λ made. made.bytes
-        ≡ out_bytes view.now.scenario (sight_by view.now (B.books books.now)) lane route cause values.now) }
-    ensures carried { IfOk result (λ made. made.carried ≡ (if is_marshalled route
-        then carried values.now else [])) }
+    arguments: CallArguments<'_>,
+) -> Result<Requested, Memory>
+    requires few { length arguments.kinds.now ≤ PARAMETER_LIMIT }
+    requires travel { TravelAs arguments.kinds.now arguments.values }
+    requires connected { is_marshalled route ≡ true
+        → AllConnected (B.books books.now).live (carried arguments.values) }
+    ensures bytes { IfOk result (λ made. made.sending.bytes
+        ≡ out_bytes view.now.scenario (sight_by view.now (B.books books.now)) lane route cause
+        arguments.entry.values) }
+    ensures carried { IfOk result (λ made. made.sending.carried ≡ (if is_marshalled route
+        then carried arguments.entry.values else [])) }
+    ensures message { IfOk result (λ made. made.message ≡ arguments.entry.values) }
 {
+    let CallArguments { kinds, values } = arguments;
     match route {
-        Route::Direct | Route::Refused => Ok(nothing_sent(alloc)),
-        Route::Switch | Route::Post => request_with(view, books, alloc, lane, cause, values),
+        Route::Direct | Route::Refused => Ok(nothing_requested(alloc, values)),
+        Route::Switch | Route::Post => {
+            request_with(view, books, alloc, lane, cause, kinds, values.as_slice())
+        }
     }
 }
 
@@ -169,7 +220,7 @@ fn issue_of(
     view: &View<'_>,
     target: Option<RefValue>,
     refusal: Option<HResult>,
-    values: Rows<Value>,
+    values: Message,
 ) -> Issued
     ensures { result ≡ record {
       refusal = or_ok refusal;
@@ -187,7 +238,7 @@ fn issue_of(
 }
 
 /// The entry of a call, with what goes with it. The values are those that travel on its route, and the
-/// request has their bytes. The only error is want of memory.
+/// request has their bytes, which the call sends then. The only error is want of memory.
 pub fn call<B: Found>(
     view: &View<'_>,
     books: &B,
@@ -197,6 +248,7 @@ pub fn call<B: Found>(
     args: &[Value],
 ) -> Result<Doing, Memory>
     requires room { HasRoom view.now (B.books books.now) }
+    requires travel { All CanTravel args.now }
     ensures deed { IfOk result (λ made. (to : Destination)
         → made.deed ≡ deed_of view.now.scenario (sight_by view.now (B.books books.now)) lane
         (action.Call callee.now.target callee.now.iface callee.now.method args.now to)) }
@@ -215,17 +267,11 @@ pub fn call<B: Found>(
     let is_live = is_connected(books, target);
     let refusal = call_refusal(view, lane, target, iface, method, is_live);
     let route = route(view, lane, target, refusal);
-    let values = arguments(
-        view,
-        books,
-        alloc,
-        iface,
-        method,
-        route.is_marshalled(),
-        args,
-    )?;
+    let kinds = parameters(view, iface, method);
+    let values = arguments(books, alloc, kinds, route.is_marshalled(), args)?;
     let cause = next_cause(view, lane);
-    let sending = request_on(view, books, alloc, lane, route, cause, values.as_slice())?;
+    let arguments = CallArguments { kinds, values };
+    let requested = request_on(view, books, alloc, lane, route, cause, arguments)?;
     Ok(Doing {
         deed: out(
             view.calls.len(),
@@ -234,10 +280,10 @@ pub fn call<B: Found>(
             method,
             route,
             cause,
-            sending.bytes,
+            requested.sending.bytes,
         ),
-        issued: Some(issue_of(view, target, refusal, values)),
-        carried: sending.carried,
+        issued: Some(issue_of(view, target, refusal, requested.message)),
+        carried: requested.sending.carried,
     })
 }
 

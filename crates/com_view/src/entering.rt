@@ -11,21 +11,10 @@ ghost use Rattle.com_model.specs.declared.deeds.Deed.TheVariants as deed;
 ghost use Rattle.com_view.specs.Seen.{bare, sight_by};
 
 use crate::view::View;
-use com_base::{HResult, Memory, OPENER_LIMIT, Rows, Value};
+use com_base::{HResult, Memory, OPENER_LIMIT};
 use com_deeds::is_handled;
 use com_model::Deed;
 use std::alloc::Global;
-
-// Equal values. The only error is want of memory.
-fn copy_of(alloc: Global, values: &[Value]) -> Result<Rows<Value>, Memory>
-    ensures { IfOk result (λ copies. copies ≡ values.now) }
-{
-    let mut copies = Vec::new(alloc);
-    for value in values {
-        copies.push(value.copy()?)?;
-    }
-    Ok(Rows::from_vec(copies))
-}
 
 impl<'a> View<'a> {
     // The call type that the Enter of a call has: of one that was posted to an STA.
@@ -41,7 +30,7 @@ impl<'a> View<'a> {
     }
 
     // The Enter of a call: its object and that one's owner, the call type where it was posted to an
-    // STA, and the values still to be read. The only error is want of memory.
+    // STA, and the values that are read of what it sends. The only error is want of memory.
     fn enter_deed(&self, alloc: Global, lane: u32, call: u32) -> Result<Deed, Memory>
         ensures { IfOk result (λ made. made
             ≡ deed.Enter call (object_of ((bare self.now).issue call)) ((bare self.now).owner (object_of
@@ -52,7 +41,7 @@ impl<'a> View<'a> {
         let object = self.object_of(call);
         let apartment = self.owner(object, lane);
         let call_type = self.shown_sort(lane, call);
-        let values = copy_of(alloc, self.calls.unread_values(call))?;
+        let values = self.calls.read_values(alloc, call)?;
         Ok(Deed::Enter {
             call,
             object,

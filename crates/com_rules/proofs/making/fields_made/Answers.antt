@@ -5,15 +5,16 @@ use Rattle.com_base.specs.declared.value.RefValue.{RefValue}
 use Rattle.com_refs_books.specs.Changes.{marshal_all}
 use Rattle.com_exchange.specs.declared.preview.Outgoing.{Outgoing}
 use Rattle.com_exchange.specs.Previews.{IsOutgoing, reference_of}
+use Rattle.com_exchange.specs.Received.{reference_in_fields}
 use Rattle.com_model.specs.Deeds.{fields_since, with_packets}
 use Rattle.com_model.specs.Lists.{number_or_zero}
 use Rattle.com_view.specs.Seen.{sight_by, running_seen}
-use Rattle.com_rules.specs.Packets.{fields_from}
-use Rattle.com_rules.proofs.Packing.{fields_are}
+use Rattle.com_rules.specs.Packets.{AllConnected, fields_from}
+use Rattle.com_rules.proofs.Packing.{all_are_connected, fields_are, fields_name}
 use Rattle.com_rules.proofs.making.fields_made.Goals as goal
 
-pub returns : goal.returns
-returns g c =
+pub returns-clause-made : goal.returns-clause-made
+returns-clause-made g c =
     let b = g.B.References.books c.args.books.now in
     let w = c.args.view.now in
     let v = sight_by w b in
@@ -30,3 +31,18 @@ returns g c =
     ∙ ap (λ (l : List Outgoing). fields_from w.scenario v (length b.packets) refs l 0) rows
     ∙ fields_are w.scenario v a xs refs all (c.in_ok-refs.ensures.packets v.owns b a all)
     ∙ ap (λ (l : List RefValue). fields_since w.scenario v (with_packets v c.args.lane (marshal_all a l))) references
+
+pub returns-clause-named : goal.returns-clause-named
+returns-clause-named g c = λ connected.
+    let b = g.B.References.books c.args.books.now in
+    let w = c.args.view.now in
+    let v = sight_by w b in
+    let a = number_or_zero (running_seen w c.args.lane) in
+    let xs = c.as_slice-2.result.now in
+    let all : AllByRecursion (IsOutgoing v.owns b a) xs =
+    subst (λ (l : List Outgoing). AllByRecursion (IsOutgoing v.owns b a) l) (sym c.as_slice-2.ensures.value) c.in_ok-rows.ensures.outgoing in
+    let references : map reference_of xs ≡ c.args.carried.now = ap (map reference_of) c.as_slice-2.ensures.value ∙ c.in_ok-rows.ensures.references in
+    let each : AllConnected b.live (map reference_of xs) = subst (AllConnected b.live) (sym references) connected in
+    ap (map reference_in_fields) c.in_ok-fields.ensures
+    ∙ fields_name w.scenario v c.packets.result c.as_slice-3.result.now xs 0 (all_are_connected v.owns b a xs all each)
+    ∙ references

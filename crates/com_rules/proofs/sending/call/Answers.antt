@@ -1,5 +1,6 @@
-use Rattle.std.proofs.Common.{◌≡◌, ℕ, ◌+◌, Bool, true, List, Option, length, ap, ◌∙◌}
+use Rattle.std.proofs.Common.{◌≡◌, ℕ, ◌+◌, ◌≤◌, Bool, true, List, Option, length, ap, subst, sym, ◌∙◌}
 use Rattle.com_base.specs.declared.hresult.HResult.{HResult}
+use Rattle.com_base.specs.declared.value.Kind.{Kind}
 use Rattle.com_base.specs.declared.value.Value.{Value}
 use Rattle.com_classes.specs.Lookups.{method_at}
 use Rattle.com_model.specs.declared.deeds.Deed.TheVariants as deed
@@ -8,9 +9,12 @@ use Rattle.com_model.specs.Calls.{is_marshalled}
 use Rattle.com_model.specs.Deeds.{next_cause, object_in, out_bytes}
 use Rattle.com_model.specs.Issue.{call_refusal}
 use Rattle.com_model.specs.Tables.{parameters}
-use Rattle.com_model.specs.Values.{sent_values}
+use Rattle.com_model.specs.Values.{carried, sent_values}
 use Rattle.com_view.specs.Seen.{Seen, sight_by, home_seen, running_seen}
+use Rattle.com_exchange.specs.Messages.{TravelAs}
 use Rattle.com_rules.specs.Acts.{route_or}
+use Rattle.com_rules.specs.Packets.{AllConnected}
+use Rattle.com_rules.proofs.Carrying.{sent_connected, sent_travel}
 use Rattle.com_rules.proofs.Outs.{called_on, bytes_on}
 use Rattle.com_rules.proofs.sending.call.Goals as goal
 
@@ -30,16 +34,37 @@ returns-clause-deed g c = λ to.
     let vs : List Value = sent_values true b.live (parameters (method_at s.classes i m)) c.args.args.now in
     let route : r ≡ route_or w b l c.args.callee.now.target refused =
     c.route-route.ensures b ∙ ap (λ (x : Option HResult). route_or w b l c.args.callee.now.target x) (c.call_refusal-refusal.ensures b c.is_connected-is_live.ensures) in
-    let values : c.as_slice.result.now ≡ sent_values (is_marshalled r) b.live (parameters (method_at s.classes i m)) c.args.args.now =
-    c.as_slice.ensures ∙ c.in_ok-values.ensures
+    let values : c.in_ok-values.values ≡ sent_values (is_marshalled r) b.live (parameters (method_at s.classes i m)) c.args.args.now =
+    c.in_ok-values.ensures
+    ∙ ap (λ (ks : List Kind). sent_values c.is_marshalled.result b.live ks c.args.args.now) c.parameters-kinds.ensures
     ∙ ap (λ (t : Bool). sent_values t b.live (parameters (method_at s.classes i m)) c.args.args.now) c.is_marshalled.ensures in
-    let bytes : c.in_ok-sending.sending.bytes ≡ out_bytes s v l r k vs =
-    c.in_ok-sending.ensures.bytes ∙ ap (λ (x : List Value). out_bytes s v l r k x) values
+    let bytes : c.in_ok-requested.requested.sending.bytes ≡ out_bytes s v l r k vs =
+    c.in_ok-requested.ensures.bytes ∙ ap (λ (x : List Value). out_bytes s v l r k x) values
     ∙ bytes_on s v l r k b.live (parameters (method_at s.classes i m)) c.args.args.now in
     let calls : c.len.result ≡ v.calls = c.len.ensures.calls ∙ ap (λ (x : Seen). length x.calls.tables.issues) c.view.view_is in
     c.out.ensures
-    ∙ ap (λ (n : ℕ). deed.Out (n + 1) o i m r k c.in_ok-sending.sending.bytes) calls
+    ∙ ap (λ (n : ℕ). deed.Out (n + 1) o i m r k c.in_ok-requested.requested.sending.bytes) calls
     ∙ ap (λ (x : Option (List ℕ)). deed.Out (v.calls + 1) o i m r k x) bytes
     ∙ ap (λ (x : ℕ). deed.Out (v.calls + 1) o i m r x (out_bytes s v l r x vs)) c.next_cause-cause.ensures
     ∙ ap (λ (x : Route). deed.Out (v.calls + 1) o i m x (next_cause v l) (out_bytes s v l x (next_cause v l) vs)) route
     ∙ called_on w b l c.args.callee.now.target i m c.args.args.now refused
+
+pub request_on-requires-clause-few : goal.request_on-requires-clause-few
+request_on-requires-clause-few g c =
+    subst (λ (ks : List Kind). length ks ≤ 4) (sym c.parameters-kinds.ensures)
+    (c.requires.room.few c.args.callee.now.iface c.args.callee.now.method)
+
+pub request_on-requires-clause-travel : goal.request_on-requires-clause-travel
+request_on-requires-clause-travel g c =
+    let b = g.B.References.books c.args.books.now in
+    let ks = c.parameters-kinds.result.now in
+    subst (λ (vs : List Value). TravelAs ks vs) (sym c.in_ok-values.ensures)
+    (sent_travel c.is_marshalled.result b.live ks c.args.args.now c.requires.travel)
+
+pub request_on-requires-clause-connected : goal.request_on-requires-clause-connected
+request_on-requires-clause-connected g c = λ marshalled.
+    let b = g.B.References.books c.args.books.now in
+    let ks = c.parameters-kinds.result.now in
+    let is : c.is_marshalled.result ≡ true = c.is_marshalled.ensures ∙ marshalled in
+    subst (λ (vs : List Value). AllConnected b.live (carried vs)) (sym (c.in_ok-values.ensures ∙ ap (λ (t : Bool). sent_values t b.live ks c.args.args.now) is))
+    (sent_connected b.live ks c.args.args.now)

@@ -1,5 +1,5 @@
 use Rattle.std.proofs.Common.{◌≡◌, take}
-use Rattle.com_view.proofs.entering.copy_of.Given as goal
+use Rattle.com_exchange.proofs.message.copy_of.Given as goal
 
 abbrev pub invariant-loop-value : goal.invariant-loop-value
 invariant-loop-value l = l.copies.items ≡ take l.value-index l.values

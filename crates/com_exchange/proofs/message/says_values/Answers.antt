@@ -1,0 +1,7 @@
+use Rattle.com_exchange.proofs.Ranging.{read_again}
+use Rattle.com_exchange.proofs.message.says_values.Goals as goal
+
+pub returns : goal.returns
+returns c =
+    read_again c.args.cause c.args.kinds.now c.args.values.now c.args.packets.now c.ranges.cause.fits c.requires.few c.requires.travel c.requires.named
+    c.are_in_range.ensures

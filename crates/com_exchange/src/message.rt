@@ -1,0 +1,148 @@
+//! What a call sends: its values, or the bytes of a request that say them.
+ghost use Rattle.std.specs.Prelude.{◌≡◌, ◌≤◌, IfOk, Ok, length, map};
+ghost use Rattle.com_base.specs.declared.limits.TheConstants.{PARAMETER_LIMIT};
+ghost use Rattle.com_model.specs.Values.{carried, cause_guid, request_bytes};
+ghost use Rattle.com_exchange.specs.Received.{packet_in_fields, reference_in_fields, request_in};
+ghost use Rattle.com_exchange.specs.Messages.{IsRead, TravelAs, values_read};
+
+use crate::ranges::are_in_range;
+use crate::receiving::{RequestError, read_request};
+use com_base::{ByteList, Kind, Memory, Rows, StdFields, Value};
+use std::alloc::{AllocError, Global};
+use std::marker::Model;
+
+// A request that was written.
+#[derive(Debug, Drop)]
+struct Written {
+    /// The kinds of its arguments.
+    kinds: Rows<Kind>,
+    /// Its bytes.
+    bytes: ByteList,
+}
+
+// How a message is kept. A request stands on the heap, so that entries without one stay narrow.
+#[derive(Debug, Drop)]
+enum Form {
+    /// The values themselves.
+    Values(Rows<Value>),
+    /// The bytes that say them.
+    Request(Box<Written>),
+}
+
+/// What a call sends, seen as its values. A direct call sends the values themselves. A call that is
+/// marshalled sends the bytes of its request, which can be read, and the values are those that are read in
+/// them.
+#[derive(Debug, Drop)]
+pub struct Message {
+    form: Form,
+}
+
+impl Model for Message {
+    ghost use Rattle.std.specs.Prelude.{List};
+    ghost use Rattle.com_base.specs.declared.value.Value.{Value as Carried};
+    ghost use Rattle.com_exchange.specs.Messages.{IsReadable, values_of};
+
+    ghost Value = { List Carried };
+
+    ghost view = { λ s. values_of s.form };
+
+    ghost invariant = { λ s. IsReadable s.form };
+}
+
+// Equal values. The only error is want of memory.
+fn copy_of(alloc: Global, values: &[Value]) -> Result<Rows<Value>, Memory>
+    ensures { IfOk result (λ copies. copies ≡ values.now) }
+{
+    let mut copies = Vec::with_capacity(alloc, values.len())?;
+    for value in values {
+        copies.push(value.copy()?)?;
+    }
+    Ok(Rows::from_vec(copies))
+}
+
+// The values that the bytes of a request say. The only error is want of memory.
+fn values_in_bytes(alloc: Global, kinds: &[Kind], bytes: &[u8]) -> Result<Rows<Value>, Memory>
+    requires { IsRead (request_in kinds.now bytes.now) }
+    ensures { IfOk result (λ values. values ≡ values_read (request_in kinds.now bytes.now)) }
+{
+    match read_request(alloc, kinds, bytes) {
+        Ok(request) => Ok(request.values),
+        Err(RequestError::Memory) => Err(AllocError),
+        Err(RequestError::Header(_)) => unreachable!(),
+        Err(RequestError::Arguments(_)) => unreachable!(),
+    }
+}
+
+// What is read in the bytes of a request are the values that it was written of. All numbers are in the
+// ranges of their types.
+fn says_values(cause: u32, kinds: &[Kind], values: &[Value], packets: &[StdFields])
+    requires few { length kinds.now ≤ PARAMETER_LIMIT }
+    requires travel { TravelAs kinds.now values.now }
+    requires named { map reference_in_fields packets.now ≡ carried values.now }
+    ensures { request_in kinds.now (request_bytes cause values.now packets.now) ≡ Ok (record {
+      cause = cause_guid cause;
+      values = values.now;
+      packets = map packet_in_fields packets.now;
+    }) }
+{
+    are_in_range(values, packets);
+}
+
+// Equal kinds. The only error is want of memory.
+fn copy_of_kinds(alloc: Global, kinds: &[Kind]) -> Result<Rows<Kind>, Memory>
+    ensures { IfOk result (λ copies. copies ≡ kinds.now) }
+{
+    let mut copies = Rows::new(alloc);
+    copies.push_all(kinds)?;
+    Ok(copies)
+}
+
+impl Message {
+    /// The values themselves, as a direct call sends them. It takes no memory.
+    pub fn of_values(values: Rows<Value>) -> Message
+        ensures { result ≡ values }
+    {
+        Message {
+            form: Form::Values(values),
+        }
+    }
+
+    /// The bytes of a request that was written of these values, each reference with the fields of the next
+    /// packet. There are as many values as kinds, each of its kind; texts are UTF-8, and texts and bytes are
+    /// not longer than a count may say. The only error is want of memory.
+    pub fn of_request(
+        alloc: Global,
+        cause: u32,
+        kinds: &[Kind],
+        values: &[Value],
+        packets: &[StdFields],
+        bytes: &ByteList,
+    ) -> Result<Message, Memory>
+        requires few { length kinds.now ≤ PARAMETER_LIMIT }
+        requires travel { TravelAs kinds.now values.now }
+        requires named { map reference_in_fields packets.now ≡ carried values.now }
+        requires written { bytes.now ≡ request_bytes cause values.now packets.now }
+        ensures { IfOk result (λ message. message ≡ values.now) }
+    {
+        says_values(cause, kinds, values, packets);
+        let written = Written {
+            kinds: copy_of_kinds(alloc, kinds)?,
+            bytes: bytes.copy()?,
+        };
+        Ok(Message {
+            form: Form::Request(Box::new(alloc, written)?),
+        })
+    }
+
+    /// The values, of a request by reading its bytes. The only error is want of memory.
+    pub fn read(&self, alloc: Global) -> Result<Rows<Value>, Memory>
+        ensures { IfOk result (λ values. values ≡ self.now) }
+    {
+        match &self.form {
+            Form::Values(values) => copy_of(alloc, values.as_slice()),
+            Form::Request(written) => {
+                values_in_bytes(alloc, written.kinds.as_slice(), written.bytes.as_slice())
+            }
+        }
+    }
+}
