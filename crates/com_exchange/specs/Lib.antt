@@ -2,3 +2,4 @@ pub mod Wires
 pub mod Sent
 pub mod Previews
 pub mod Received
+pub mod Messages
