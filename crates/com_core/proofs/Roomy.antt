@@ -1,5 +1,5 @@
 -- There is room for the numbers of one more entry within the limit of entries, and the numbers of each action fit.
-use Rattle.std.proofs.Common.{◌≡◌, ℕ, ◌+◌, ◌<◌, ◌≤◌, ◌^◌, List, length, subst, sym, arith}
+use Rattle.std.proofs.Common.{◌≡◌, ℕ, ◌+◌, ◌*◌, ◌<◌, ◌≤◌, ◌^◌, List, length, subst, sym, arith}
 use Rattle.std.specs.Prelude.{Option, Some}
 use Rattle.com_body.specs.declared.actions.Action.{Action}
 use Rattle.com_body.specs.declared.actions.Action.TheVariants as action
@@ -31,6 +31,12 @@ small n m k p q r = omega (arith, p, q, r)
 next-small : (n m k : ℕ) → n ≤ m → m < k → k ≤ 1000000 → n + 1 < 2 ^ 32
 next-small n m k p q r = omega (arith, p, q, r)
 
+packets-small : (n m k : ℕ) → n ≤ 4 * m → m < k → k ≤ 1000000 → n + 4 < 2 ^ 32
+packets-small n m k p q r = omega (arith, p, q, r)
+
+proxies-small : (n m k : ℕ) → n ≤ 20 * m → m < k → k ≤ 1000000 → n < 2 ^ 32
+proxies-small n m k p q r = omega (arith, p, q, r)
+
 threads-small : (n : ℕ) → n ≤ 16 → n < 2 ^ 32
 threads-small n p = omega (arith, p)
 
@@ -45,6 +51,8 @@ room_seen s st p b fallen clock r h low =
       calls = subst (λ (t : CallTables). length t.issues + 1 < 2 ^ 32) (sym h.calls) (next-small (length st.issues) st.entries (limit s) n.calls low k);
       causes = subst (λ (t : CallTables). t.causes + 1 < 2 ^ 32) (sym h.calls) (next-small st.causes st.entries (limit s) n.causes low k);
       cookies = subst (λ (x : Books). length x.cookies + 1 < 2 ^ 32) (sym h.books) (next-small (length (books_in st).cookies) st.entries (limit s) n.cookies low k);
+      packets = subst (λ (x : Books). length x.packets + 4 < 2 ^ 32) (sym h.books) (packets-small (length (books_in st).packets) st.entries (limit s) n.packets low k);
+      proxies = λ a o i. subst (λ (x : Books). x.proxy a o i < 2 ^ 32) (sym h.books) (proxies-small ((books_in st).proxy a o i) st.entries (limit s) (n.proxies a o i) low k);
       few = parameters-few s r.formed;
     }
 
@@ -59,6 +67,7 @@ action-fits s (action.Create slot k i) f p q t = number-fits s i f p.1
 action-fits s (action.Query to held i) f p q t = number-fits s i f p.1
 action-fits s (action.Raw b bytes) f p q t = omega (arith, q)
 action-fits s (action.Call held i m args to) f p q t = t
+action-fits s (action.Leave hr v) f p q t = t
 action-fits s _ f p q t = tt
 
 out-fits : (s : Scenario) (o : Option Outcome) (r : Outcome) → Formed s → ProperOut s o → FewOut o → OutTravels o → o ≡ Some r → FitsAction r.action

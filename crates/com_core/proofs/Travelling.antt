@@ -1,4 +1,5 @@
--- The arguments of each call that somebody makes by a step can travel: what frames hold are literals of the scenario, which are short.
+-- The arguments of each call and the result of each Leave that somebody makes by a step can travel: what frames hold are literals
+-- of the scenario, which are short.
 use Rattle.std.proofs.Common.{◌≡◌, ℕ, ◌+◌, ◌<◌, ◌≤◌, true, List, length, sym, ap, subst, ◌∙◌, arith}
 use Rattle.std.proofs.lemmas.Grind.{common_steps}
 use Rattle.std.proofs.lemmas.Str.{IsUtf8-from_ascii}
@@ -11,6 +12,7 @@ use Rattle.com_body.specs.declared.actions.Action.{Action}
 use Rattle.com_body.specs.declared.actions.Action.TheVariants as action
 use Rattle.com_body.specs.declared.frame.Outcome.{Outcome}
 use Rattle.com_exchange.specs.Messages.{CanTravel}
+use Rattle.com_exchange.specs.Sent.{ResultCanTravel}
 use Rattle.com_refs_books.specs.Changes.{Books}
 use Rattle.com_model.specs.declared.scenario.Scenario.{Scenario}
 use Rattle.com_model.specs.Formed.{is_text_byte}
@@ -18,7 +20,7 @@ use Rattle.com_model.specs.Frames.{Actor, Scene, outcome, scene}
 use Rattle.com_model.specs.State.{State, scene_in, scene_read}
 use Rattle.com_model.proofs.Goods.{all-of, all-or}
 use Rattle.com_model.proofs.Sights.{same-scene}
-use Rattle.com_laws_values.specs.Held.{HoldsDeclared, IsCharacters, IsDeclared, ValueBy}
+use Rattle.com_laws_values.specs.Held.{HoldsDeclared, IsCharacters, IsDeclared, ResultBy, ValueBy}
 use Rattle.com_laws_values.proofs.Laws.{legal-holds}
 use Rattle.com_laws_values.proofs.Scenes.{OutBy, SceneBy, outcome-by}
 use Rattle.com_laws_values.proofs.Walks.{ActionBy}
@@ -41,8 +43,13 @@ value-travels R (value.Text t) p = let n : length t ≤ 256 = p.1 in (text-utf8 
 value-travels R (value.Bytes t) p = let n : length t ≤ 256 = p in omega (arith, n)
 value-travels R (value.Guid x) p = tt
 
+result-travels : (R : RefValue → Type 0) (v : Option Value) → ResultBy R v → ResultCanTravel v
+result-travels R None p = tt
+result-travels R (Some v) p = value-travels R v p
+
 abbrev pub ActionTravels : Action → Type 0
 ActionTravels (action.Call held i m args to) = All CanTravel args
+ActionTravels (action.Leave hr v) = ResultCanTravel v
 ActionTravels _ = Unit {0}
 
 abbrev pub OutTravels : Option Outcome → Type 0
@@ -51,6 +58,7 @@ OutTravels (Some r) = ActionTravels r.action
 
 action-travels : (R : RefValue → Type 0) (a : Action) → ActionBy R a → ActionTravels a
 action-travels R (action.Call held i m args to) p = all-of (ValueBy R) CanTravel (value-travels R) args p.1
+action-travels R (action.Leave hr v) p = result-travels R v p
 action-travels R _ p = tt
 
 out-travels : (R : RefValue → Type 0) (o : Option Outcome) → OutBy R o → OutTravels o

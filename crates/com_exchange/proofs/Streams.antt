@@ -1,6 +1,7 @@
 -- Values as they travel, one after the other.
-use Rattle.std.proofs.Common.{◌≡◌, ℕ, suc, zero, ◌+◌, ◌-◌, ◌<◌, ◌≤◌, List, [], ◌∷◌, ◌++◌, length, get_or, drop, Option, Some, None, refl, sym, ap, subst, ◌∙◌, arith, slice_get}
+use Rattle.std.proofs.Common.{◌≡◌, ℕ, suc, zero, ◌+◌, ◌-◌, ◌*◌, ◌<◌, ◌≤◌, ◌^◌, List, [], ◌∷◌, ◌++◌, length, get_or, drop, Option, Some, None, refl, sym, ap, subst, ◌∙◌, arith, slice_get}
 use Rattle.std.proofs.lemmas.List.{append-nil, length-append}
+use Rattle.std.proofs.lemmas.List.Elements.{All-get_or}
 use Rattle.std.proofs.Math.Seq.{drop-cons}
 use Rattle.std.proofs.Math.ListN.{drop_of_length-le}
 use Rattle.ndr_args.specs.declared.wire.Wire.{Wire}
@@ -13,7 +14,12 @@ use Rattle.com_base.specs.declared.value.Value.{Value}
 use Rattle.com_base.specs.declared.value.Value.TheVariants as value
 use Rattle.com_model.specs.Lists.{first, without_first}
 use Rattle.com_model.specs.Values.{wires}
+use Rattle.std.specs.Prelude.{All}
+use Rattle.com_exchange.specs.Messages.{CanTravel}
 use Rattle.com_exchange.specs.Wires.{wire_of, packets_of}
+
+pub each_at : (vs : List Value) (i : ℕ) (v : Value) → i < length vs → v ≡ get_or vs i v → All CanTravel vs → CanTravel v
+each_at vs i v within is all = subst (λ (x : Value). CanTravel x) (sym is) (All-get_or (λ (x : Value). CanTravel x) vs i v within all)
 
 first_at : {X : Type 0} (xs : List X) (k : ℕ) → first (drop k xs) ≡ slice_get xs k
 first_at [] zero = refl
@@ -54,11 +60,26 @@ wires_next (value.Ref (Some r)) vs fs k = one_more vs fs k
 pub record SoFar (old out : List ℕ) (referent taken i : ℕ) (vs : List Value) (fs : List StdFields) : Type 0 where
   pub appended : Appended old out referent (wires (drop i vs) (drop taken fs)) (written_args (wires vs fs))
   pub few : taken ≤ i
+  pub low : referent ≤ 0x20000 + 4 * i
+
+pub so_far_fits : (old out : List ℕ) (referent taken i : ℕ) (vs : List Value) (fs : List StdFields)
+    → SoFar old out referent taken i vs fs → i < length vs → 0x20000 + 4 * length vs < 2 ^ 32 → referent + 4 < 2 ^ 32
+so_far_fits old out referent taken i vs fs so_far within fits = let low : referent ≤ 0x20000 + 4 * i = so_far.low in omega (arith, low, within, fits)
+
+referent_low : (referent : ℕ) (w : Wire) → next_referent referent w ≤ referent + 4
+referent_low referent (wire.Int n) = omega arith
+referent_low referent (wire.Bool b) = omega arith
+referent_low referent (wire.Text t) = omega arith
+referent_low referent (wire.Bytes t) = omega arith
+referent_low referent (wire.Guid g) = omega arith
+referent_low referent (wire.Ref None) = omega arith
+referent_low referent (wire.Ref (Some fields)) = omega arith
 
 pub so_far_none : (old : List ℕ) (vs : List Value) (fs : List StdFields) → SoFar old old 0x20000 0 0 vs fs
 so_far_none old vs fs = record {
   appended = record { front = []; out_is = sym (append-nil old); total_is = refl };
   few = omega arith;
+  low = omega arith;
 }
 
 pub so_far_more : (old out new : List ℕ) (referent next position taken i : ℕ) (v : Value) (vs : List Value) (fs : List StdFields)
@@ -74,9 +95,12 @@ so_far_more old out new referent next position taken i v vs fs within is so_far 
     let before : Appended old out referent (w ∷ rest) total = subst (λ (l : List Wire). Appended old out referent l total) here so_far.appended in
     let after : Appended old new next rest total = appended_more old out new referent next position w rest total before place_is new_is next_is in
     let more : suc i ≡ i + 1 = omega arith in
+    let step : next_referent referent w ≤ referent + 4 = referent_low referent w in
+    let low : referent ≤ 0x20000 + 4 * i = so_far.low in
     record {
       appended = subst (λ (n : ℕ). Appended old new next (wires (drop n vs) (drop (taken + packets_of v) fs)) total) more after;
       few = omega (arith, so_far.few);
+      low = omega (arith, step, low, next_is);
     }
 
 pub so_far_all : (old out : List ℕ) (referent taken i : ℕ) (vs : List Value) (fs : List StdFields)

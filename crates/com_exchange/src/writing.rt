@@ -1,19 +1,23 @@
 //! Requests and replies as bytes.
-ghost use Rattle.std.specs.Prelude.{◌≡◌, ◌++◌, ◌-◌, ◌<◌, ◌≤◌, Option, IfOk, OnOk, length, option_copied};
+ghost use Rattle.std.specs.Prelude.{◌≡◌, ◌++◌, ◌+◌, ◌-◌, ◌*◌, ◌<◌, ◌≤◌, ◌^◌, All, Option, IfOk, OnOk};
+ghost use Rattle.std.specs.Prelude.{length, option_copied};
 ghost use Rattle.std.specs.Prelude.{slice_get};
 ghost use Rattle.std.specs.Int.{w32};
 ghost use Rattle.com_base.specs.declared.standard.StdFields.{StdFields};
 ghost use Rattle.com_wire.specs.Fields.{number};
 ghost use Rattle.objref.specs.Grammar.{written_of};
+ghost use Rattle.ndr_args.specs.declared.wire.Wire.TheVariants.{Bytes as WireBytes};
 ghost use Rattle.ndr_args.specs.Grammar.{gap, zeros, counted};
-ghost use Rattle.ndr_args.specs.Written.{align_of_value, written_arg, next_referent, written_args};
+ghost use Rattle.ndr_args.specs.Written.{CanSend, align_of_value, written_arg, next_referent, written_args};
 ghost use Rattle.com_model.specs.Values.{cause_guid, wires, result_list, request_bytes};
 ghost use Rattle.com_model.specs.Values.{reply_bytes};
+ghost use Rattle.com_exchange.specs.Messages.{CanTravel};
+ghost use Rattle.com_exchange.specs.Sent.{ResultCanTravel};
 ghost use Rattle.com_exchange.specs.Wires.{wire_of, packets_of};
 
 use com_base::{ByteList, Guid, HResult, Memory, StdFields, Value};
 use objref::encode;
-use std::alloc::{AllocError, Global};
+use std::alloc::Global;
 
 // The referent of a stream's first reference that is not null. They count up by the size of a pointer.
 const FIRST_REFERENT: u32 = 0x0002_0000;
@@ -52,14 +56,12 @@ fn put_number(field: u32, out: &mut ByteList) -> Result<(), Memory>
     out.push_all(&field.to_le_bytes())
 }
 
-// Appends bytes behind their count. As many as no count tells are more than there is memory for.
+// Appends bytes behind their count.
 fn put_counted(bytes: &[u8], out: &mut ByteList) -> Result<(), Memory>
+    requires { CanSend (WireBytes bytes.now) }
     ensures { OnOk result (out.new ≡ out.old ++ counted bytes.now) }
 {
-    let Ok(count) = u32::try_from(bytes.len()) else {
-        return Err(AllocError);
-    };
-    put_number(count, out)?;
+    put_number(bytes.len() as u32, out)?;
     out.push_all(bytes)
 }
 
@@ -95,6 +97,7 @@ fn put_arg(
     referent: u32,
     out: &mut ByteList,
 ) -> Result<(), Memory>
+    requires { CanTravel value.now }
     ensures { OnOk result (out.new
         ≡ out.old ++ written_arg referent (wire_of value.now (option_copied packet.entry))) }
 {
@@ -110,15 +113,14 @@ fn put_arg(
     }
 }
 
-// The referent of the next reference behind a value. A stream of so many references that a referent does
-// not fit asks for more memory than there is.
-fn next_referent(referent: u32, value: &Value, packet: Option<&StdFields>) -> Result<u32, Memory>
-    ensures { IfOk result (λ next. next
-        ≡ next_referent referent (wire_of value.now (option_copied packet.entry))) }
+// The referent of the next reference behind a value.
+fn next_referent(referent: u32, value: &Value, packet: Option<&StdFields>) -> u32
+    requires { referent + 4 < 2 ^ 32 }
+    ensures { result ≡ next_referent referent (wire_of value.now (option_copied packet.entry)) }
 {
     match (value, packet) {
-        (Value::Ref(Some(_)), Some(_)) => referent.checked_add(STEP).ok_or(AllocError),
-        _ => Ok(referent),
+        (Value::Ref(Some(_)), Some(_)) => referent + STEP,
+        _ => referent,
     }
 }
 
@@ -130,6 +132,8 @@ fn put_value(
     referent: u32,
     out: &mut ByteList,
 ) -> Result<u32, Memory>
+    requires value { CanTravel value.now }
+    requires referent { referent + 4 < 2 ^ 32 }
     ensures next { IfOk result (λ next. next
         ≡ next_referent referent (wire_of value.now (option_copied packet.entry))) }
     ensures ok { OnOk result (out.new
@@ -138,7 +142,7 @@ fn put_value(
 {
     put_zeros(gap(position, align_of_value(value)), out)?;
     put_arg(value, packet, referent, out)?;
-    next_referent(referent, value, packet)
+    Ok(next_referent(referent, value, packet))
 }
 
 // How many packets a value needs.
@@ -161,6 +165,8 @@ pub(crate) fn packet_at(packets: &[StdFields], at: usize) -> Option<&StdFields>
 
 // Appends values as a stream of their own, each reference that is not null with the next packet.
 fn put_values(values: &[Value], packets: &[StdFields], out: &mut ByteList) -> Result<(), Memory>
+    requires travel { All CanTravel values.now }
+    requires referents { 0x20000 + 4 * length values.now < 2 ^ 32 }
     ensures { OnOk result (out.new ≡ out.old ++ written_args (wires values.now packets.now)) }
 {
     let start = out.len();
@@ -187,14 +193,17 @@ fn cause_guid(cause: u32) -> Guid
 }
 
 /// The bytes of a request: ORPCTHIS with the causality, then the arguments, each reference that is not null
-/// with the fields of the next packet, and as null where there is none. The only error is want of memory.
-/// Source: MS-DCOM 2.2.13.3, "ORPCTHIS"; C706, chapter 14.
+/// with the fields of the next packet, and as null where there is none. The only error is want of memory. Each
+/// text is UTF-8, each text and each bytes value has at most 65,536 bytes, and there are no more values than
+/// 32 bits tell the referents of. Source: MS-DCOM 2.2.13.3, "ORPCTHIS"; C706, chapter 14.
 pub fn request(
     alloc: Global,
     cause: u32,
     values: &[Value],
     packets: &[StdFields],
 ) -> Result<ByteList, Memory>
+    requires travel { All CanTravel values.now }
+    requires referents { 0x20000 + 4 * length values.now < 2 ^ 32 }
     ensures { IfOk result (λ bytes. bytes ≡ request_bytes cause values.now packets.now) }
 {
     let mut bytes = ByteList::new(alloc);
@@ -210,6 +219,7 @@ fn put_result(
     packets: &[StdFields],
     out: &mut ByteList,
 ) -> Result<(), Memory>
+    requires { ResultCanTravel (option_copied value) }
     ensures { OnOk result (out.new
         ≡ out.old ++ written_args (wires (result_list (option_copied value.entry)) packets.now)) }
 {
@@ -233,14 +243,15 @@ fn put_answer(answer: HResult, start: usize, out: &mut ByteList) -> Result<(), M
 }
 
 /// The bytes of a reply: ORPCTHAT, then the value, if there is one, with the fields of its packet, and the
-/// HRESULT at a multiple of four. The only error is want of memory. Source: MS-DCOM 2.2.13.4, "ORPCTHAT";
-/// C706, chapter 14.
+/// HRESULT at a multiple of four. The only error is want of memory. A text is UTF-8, and a text or bytes have
+/// at most 65,536 bytes. Source: MS-DCOM 2.2.13.4, "ORPCTHAT"; C706, chapter 14.
 pub fn reply(
     alloc: Global,
     answer: HResult,
     value: Option<&Value>,
     packets: &[StdFields],
 ) -> Result<ByteList, Memory>
+    requires { ResultCanTravel (option_copied value) }
     ensures { IfOk result (λ bytes. bytes ≡ reply_bytes answer (option_copied value.entry) packets.now) }
 {
     let mut bytes = ByteList::new(alloc);

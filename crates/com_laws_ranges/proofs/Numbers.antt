@@ -281,7 +281,7 @@ out-few s f b m (Some (action.Call held i k args to)) =
     omega (arith, e, p)
 out-few s f b m _ = omega arith
 
-carried-few : (vs : List Value) → length (carried vs) ≤ length vs
+pub carried-few : (vs : List Value) → length (carried vs) ≤ length vs
 carried-few [] = omega arith
 carried-few (value.Ref (Some r) ∷ vs) = let e : length (carried vs) ≤ length vs = carried-few vs in omega (arith, e)
 carried-few (value.Ref None ∷ vs) = let e : length (carried vs) ≤ length vs = carried-few vs in omega (arith, e)
@@ -332,7 +332,7 @@ one-row r p g =
 if-rows : (b : Bool) (xs ys : List Row) → FewRows xs → FewRows ys → FewRows (cond b xs ys)
 if-rows b xs ys p q = cond-is FewRows b xs ys p q
 
-result-few : (v : Option Value) → length (result_list v) ≤ 4
+pub result-few : (v : Option Value) → length (result_list v) ≤ 4
 result-few None = omega arith
 result-few (Some v) = omega arith
 

@@ -96,7 +96,7 @@ fn hand_on<K: Sink>(bytes: &mut Vec<u8>, at: &mut usize, sink: &mut K) -> Result
     ensures counts { K.faults_of sink.old ≤ K.faults_of sink.new }
 {
     'pieces: while *at < bytes.len() {
-        let count = sink.write(&bytes[*at..])?;
+        let count = sink.write(bytes.as_slice().split_at(*at).1)?;
         *at += count;
     }
     bytes.clear();

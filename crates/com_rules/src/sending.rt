@@ -9,6 +9,7 @@ ghost use Rattle.com_body.specs.declared.operands.Destination.{Destination};
 ghost use Rattle.com_refs_books.specs.Changes.{Books};
 ghost use Rattle.com_classes.specs.Lookups.{method_at};
 ghost use Rattle.com_exchange.specs.Messages.{CanTravel, TravelAs};
+ghost use Rattle.com_exchange.specs.Sent.{ResultCanTravel};
 ghost use Rattle.com_model.specs.declared.deeds.Deed.TheVariants as deed;
 ghost use Rattle.com_model.specs.Calls.{is_marshalled};
 ghost use Rattle.com_model.specs.Deeds.{deed_of, left_as, out_bytes, reply_for};
@@ -144,6 +145,7 @@ fn nothing_requested(alloc: Global, values: Rows<Value>) -> Requested
 }
 
 // The request of a call on a route that marshals. The call sends its bytes.
+#[tactic(auto, using(crate::proofs::Sized::carried_few, crate::proofs::Sized::travel_size, crate::proofs::Sized::travel_all))]
 fn request_with<B: Found>(
     view: &View<'_>,
     books: &B,
@@ -153,6 +155,7 @@ fn request_with<B: Found>(
     kinds: &[Kind],
     values: &[Value],
 ) -> Result<Requested, Memory>
+    requires room { HasRoom view.now (B.books books.now) }
     requires few { length kinds.now ≤ PARAMETER_LIMIT }
     requires travel { TravelAs kinds.now values.now }
     requires connected { AllConnected (B.books books.now).live (carried values.now) }
@@ -185,6 +188,7 @@ fn request_on<B: Found>(
     cause: u32,
     arguments: CallArguments<'_>,
 ) -> Result<Requested, Memory>
+    requires room { HasRoom view.now (B.books books.now) }
     requires few { length arguments.kinds.now ≤ PARAMETER_LIMIT }
     requires travel { TravelAs arguments.kinds.now arguments.values }
     requires connected { is_marshalled route ≡ true
@@ -238,7 +242,8 @@ fn issue_of(
 }
 
 /// The entry of a call, with what goes with it. The values are those that travel on its route, and the
-/// request has their bytes, which the call sends then. The only error is want of memory.
+/// request has their bytes, which the call sends then. The arguments can travel. The only error is want of
+/// memory.
 pub fn call<B: Found>(
     view: &View<'_>,
     books: &B,
@@ -298,6 +303,7 @@ fn reference_in(alloc: Global, value: Option<&Value>) -> Result<Rows<RefValue>, 
 }
 
 // The reply of a body whose call is marshalled and waited for.
+#[tactic(auto, using(crate::proofs::Sized::result_few))]
 fn reply_with<B: Found>(
     view: &View<'_>,
     books: &B,
@@ -306,6 +312,8 @@ fn reply_with<B: Found>(
     answer: HResult,
     value: Option<&Value>,
 ) -> Result<Sending, Memory>
+    requires room { HasRoom view.now (B.books books.now) }
+    requires travels { ResultCanTravel (option_copied value) }
     ensures bytes { IfOk result (λ made. made.bytes
         ≡ reply_for view.now.scenario (sight_by view.now (B.books books.now)) lane true answer
         (option_copied value.entry)) }
@@ -330,6 +338,8 @@ fn reply_on<B: Found>(
     answer: HResult,
     value: Option<&Value>,
 ) -> Result<Sending, Memory>
+    requires room { HasRoom view.now (B.books books.now) }
+    requires travels { ResultCanTravel (option_copied value) }
     ensures bytes { IfOk result (λ made. made.bytes
         ≡ reply_for view.now.scenario (sight_by view.now (B.books books.now)) lane is_wanted answer
         (option_copied value.entry)) }
@@ -363,6 +373,8 @@ fn left_as<B: Found>(
     answer: HResult,
     value: Option<&Value>,
 ) -> Result<Doing, Memory>
+    requires room { HasRoom view.now (B.books books.now) }
+    requires travels { ResultCanTravel (option_copied value) }
     ensures deed { IfOk result (λ made. made.deed
         ≡ left_as view.now.scenario (sight_by view.now (B.books books.now)) lane left.now.call
         (Some left.now.issue) answer (option_copied value.entry)) }
@@ -412,7 +424,7 @@ fn left_bare(alloc: Global, call: u32, answer: HResult) -> Doing
     }
 }
 
-/// The entry of a Leave, with what goes with it. The only error is want of memory.
+/// The entry of a Leave, with what goes with it. The result can travel. The only error is want of memory.
 pub fn leave<B: Found>(
     view: &View<'_>,
     books: &B,
@@ -421,6 +433,8 @@ pub fn leave<B: Found>(
     answer: HResult,
     value: Option<&Value>,
 ) -> Result<Doing, Memory>
+    requires room { HasRoom view.now (B.books books.now) }
+    requires travels { ResultCanTravel (option_copied value) }
     ensures deed { IfOk result (λ made. made.deed
         ≡ deed_of view.now.scenario (sight_by view.now (B.books books.now)) lane (action.Leave answer
         (option_copied value.entry))) }
