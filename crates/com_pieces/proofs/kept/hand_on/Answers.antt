@@ -1,5 +1,6 @@
 -- A turn of the loop hands on a part of what is gathered.
-use Rattle.std.proofs.Common.{◌≡◌, ℕ, List, ap, arith, drop, length, length-drop, refl, subst, take, ◌∙◌}
+use Rattle.std.proofs.Common.{◌≡◌, ℕ, List, ap, arith, drop, length, refl, subst, take, ◌∙◌}
+use Rattle.std.proofs.lemmas.List.{length-drop}
 use Rattle.com_io.specs.Told.{Gains}
 use Rattle.com_pieces.proofs.Gathering.{handed_more}
 use Rattle.com_pieces.proofs.kept.hand_on.Goals as goal
