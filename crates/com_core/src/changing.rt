@@ -436,7 +436,7 @@ impl Running {
     }
 
     // Makes the entry of a deed, with what the deed rests on.
-    fn make(
+    pub(crate) fn make(
         &mut self,
         scenario: &Scenario,
         acting: Actor,
@@ -578,6 +578,9 @@ impl Running {
             self.old.parts self.old.fallen.objects self.old.clock) lane) (map stepped servants.old.items)) }
     {
         forget(step);
+        if self.is_ruled(scenario, lane) {
+            return self.step_by_rule(scenario, alloc, lane, step, entry);
+        }
         let Some(made) = self.turn_of(scenario, alloc, lane, servants, step)? else {
             return Ok(false);
         };

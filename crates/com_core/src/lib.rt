@@ -11,6 +11,7 @@
 
 mod changing;
 mod laws;
+mod ruled;
 mod running;
 mod runtime;
 mod still;

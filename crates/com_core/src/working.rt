@@ -238,6 +238,9 @@ impl Running {
         ensures err { OnErr result (IsAsBefore self.old self.new) }
     {
         forget(step);
+        if self.is_ruled(scenario, lane) {
+            return self.advance_by_rule(scenario, alloc, lane, step, entry);
+        }
         let made = self.own_turn_of(scenario, alloc, lane, step)?;
         self.make_turn(scenario, lane, made, step, entry)
     }

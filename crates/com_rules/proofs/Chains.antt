@@ -1,4 +1,4 @@
--- The first of two answers.
+-- The second of two answers.
 use Rattle.std.proofs.Common.{◌≡◌, ℕ, Bool, true, false, if◌then◌else◌, Option, Some, None, refl}
 use Rattle.com_base.specs.declared.hresult.HResult.{HResult}
 use Rattle.com_base.specs.declared.value.RefValue.{RefValue}
@@ -6,9 +6,6 @@ use Rattle.com_model.specs.declared.deeds.Deed.{Deed}
 use Rattle.com_model.specs.Deeds.{hold_refusal}
 use Rattle.com_model.specs.Lists.{or_else}
 use Rattle.com_model.specs.Sight.{Sight}
-
-pub some_first : (a r : Option Deed) (d : Deed) → a ≡ Some d → Some d ≡ or_else a r
-some_first a r d e = rw e refl
 
 pub none_first : (a r : Option Deed) → a ≡ None → or_else a r ≡ r
 none_first a r e = rw e refl
@@ -21,10 +18,3 @@ held_live false hr e = cc
 pub live_held : (v : Sight) (home : Option ℕ) (r : RefValue) → hold_refusal v home (Some r) ≡ None → v.books.live r.object ≡ true
 live_held v None r e = cc
 live_held v (Some a) r e = held_live (v.books.live r.object) _ e
-
--- The last rule after four others.
-pub after_four : (r a p w z : Option Deed) → or_else (or_else r (or_else a (or_else p w))) z ≡ or_else r (or_else a (or_else p (or_else w z)))
-after_four (Some d) a p w z = refl
-after_four None (Some d) p w z = refl
-after_four None None (Some d) w z = refl
-after_four None None None w z = refl

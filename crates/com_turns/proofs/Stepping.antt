@@ -1,5 +1,5 @@
 -- Turns that are steps, and turns that rules give.
-use Rattle.std.proofs.Common.{◌≡◌, ℕ, zero, suc, Bool, true, false, cond, ◌==◌, ◌≤◌, nat_le, List, [], ◌∷◌, Option, Some, None, option_map, refl, ap, sym, ◌∙◌, subst, arith}
+use Rattle.std.proofs.Common.{◌≡◌, ℕ, zero, suc, Bool, true, false, cond, not, ◌&&◌, ◌==◌, ◌≤◌, nat_le, List, [], ◌∷◌, Option, Some, None, option_map, refl, ap, sym, ◌∙◌, subst, arith}
 use Rattle.std.proofs.lemmas.Grind.{common_steps}
 use Rattle.com_body.specs.declared.actions.Action.{Action}
 use Rattle.com_body.specs.declared.frame.Outcome.{Outcome}
@@ -24,7 +24,7 @@ use Rattle.com_laws_safety.proofs.Acted.{OfAction, action_sort, deed-acted}
 use Rattle.com_state.specs.Parts.{openers_at}
 use Rattle.com_view.specs.Seen.{Seen, sight_by}
 use Rattle.com_turns.specs.declared.turns.Turn.{Turn}
-use Rattle.com_turns.specs.Turns.{ByRule, IsIssued, IsRule, IsTurn, Steps, acting_seen, actor_seen, body_seen, carried_with, issuing_with, outcome_seen, script_seen}
+use Rattle.com_turns.specs.Turns.{ByRule, IsIssued, IsNext, IsRule, IsTurn, Steps, acting_seen, actor_seen, body_seen, carried_seen, carried_with, is_ruled, issuing_with, outcome_seen, ruled_turn, script_seen, step_seen, turn_made}
 use Rattle.com_turns.proofs.Rules.{Acts, IsFinal, acts_in, after_rule, carries_none, final_nobody, final_rule, idle, issues_none, next_ruled, nobody_final, none_open, rule_final_is, ruled_rule, script_turn, thread, thread_rules}
 
 -- ---- entries of steps
@@ -253,6 +253,45 @@ ruled_rules w b l d p e h =
       nobody = nobody_acts w b l d (acts_in (lane_sort s l) l (openers_at w.lanes l) p) n (sym h);
       rule = ruled_rule s v l d n (sym h);
     }
+
+not-first : (a b : Bool) → (not a && not b) ≡ true → a ≡ false
+not-first true b e = absurd cc
+not-first false b e = refl
+
+not-second : (a b : Bool) → (not a && not b) ≡ true → b ≡ false
+not-second true b e = absurd cc
+not-second false true e = absurd cc
+not-second false false e = refl
+
+pub ruled_body : (w : Seen) (b : Books) (l : ℕ) → is_ruled w l ≡ true → is_body (top (sight_by w b) l) ≡ false
+ruled_body w b l e = not-first (is_body (top (sight_by w b) l)) (is_script_turn (lane_sort w.scenario l) (top (sight_by w b) l) ((sight_by w b).over l)) e
+
+pub ruled_script : (w : Seen) (b : Books) (l : ℕ) → is_ruled w l ≡ true → is_script_turn (lane_sort w.scenario l) (top (sight_by w b) l) ((sight_by w b).over l) ≡ false
+ruled_script w b l e = not-second (is_body (top (sight_by w b) l)) (is_script_turn (lane_sort w.scenario l) (top (sight_by w b) l) ((sight_by w b).over l)) e
+
+-- What the rules made, or did not, is the turn of the lane.
+pub ruled_made : (w : Seen) (b : Books) (l : ℕ) (made : Bool) (d : Deed) → is_body (top (sight_by w b) l) ≡ false
+    → is_script_turn (lane_sort w.scenario l) (top (sight_by w b) l) ((sight_by w b).over l) ≡ false
+    → or_else (where_true made d) (rule_script w.scenario (sight_by w b) l) ≡ ruled w.scenario (sight_by w b) l → IsNext w b l None (turn_made made d)
+ruled_made w b l true d p e h = rule_turn w b l d (ruled_turn d) (ruled_rules w b l d p e h) refl refl refl refl
+ruled_made w b l false d p e h = ruled_lane w b l None p e h
+
+-- Where it was made, another turn with the same deed, of nobody's step, is one too.
+pub turn_ruled : (w : Seen) (b : Books) (l : ℕ) (made : Bool) (d : Deed) (t : Turn) → IsNext w b l None (turn_made made d) → made ≡ true → t.doing.deed ≡ d
+    → acting_of t.acting ≡ Nobody → t.doing.issued ≡ None → t.doing.carried ≡ [] → IsTurn w b l None t
+turn_ruled w b l true d t h m e p i k =
+    record {
+      next = h.next ∙ ap (λ (x : Deed). Some x) (sym e);
+      acting = p ∙ (h.acting ∙ ap (λ (x : Deed). acting_seen w l x) (sym e));
+      outcome = h.outcome ∙ ap (λ (x : Deed). step_seen w l x) (sym e);
+      issued = subst (λ (x : Option Issued). IsIssued w b l t.doing.deed x) (sym i) (subst (λ (x : Deed). IsIssued w b l x None) (sym e) h.issued);
+      carried = k ∙ (h.carried ∙ ap (λ (x : Deed). carried_seen w b l x) (sym e));
+    }
+turn_ruled w b l false d t h m e p i k = absurd cc
+
+pub none_ruled : (w : Seen) (b : Books) (l : ℕ) (made : Bool) (d : Deed) → IsNext w b l None (turn_made made d) → made ≡ false → lane_next w.scenario (sight_by w b) l ≡ None
+none_ruled w b l true d h m = absurd cc
+none_ruled w b l false d h m = h
 
 -- ---- a body's turn
 

@@ -1,6 +1,6 @@
 -- One turn of a lane: who acts, the step, the entry and what goes with it, as the definitions give them from
 -- the parts that are read.
-use Rattle.std.specs.Prelude.{◌≡◌, ℕ, true, List, [], Option, Some, None}
+use Rattle.std.specs.Prelude.{◌≡◌, ℕ, Bool, true, false, not, ◌&&◌, List, [], Option, Some, None}
 use Rattle.com_base.specs.declared.value.RefValue.{RefValue}
 use Rattle.com_body.specs.declared.actions.Action.{Action}
 use Rattle.com_body.specs.declared.frame.Native.{Native}
@@ -21,16 +21,18 @@ use Rattle.com_model.specs.Frames.{Actor as Acting, Body, Nobody, actor, script_
 use Rattle.com_model.specs.Frames.{outcome, unless_over}
 use Rattle.com_model.specs.Issue.{action_refusal, or_ok}
 use Rattle.com_model.specs.Lists.{first}
-use Rattle.com_model.specs.Rules.{lane_next}
+use Rattle.com_model.specs.Openers.{is_body}
+use Rattle.com_model.specs.Rules.{is_script_turn, lane_next, top}
 use Rattle.com_model.specs.State.{is_marshalled_by, scene_read}
 use Rattle.com_model.specs.Values.{carried, result_list}
 use Rattle.com_model.specs.Tables.{LaneSort, lane_sort, script}
 use Rattle.com_rules.specs.Fits.{FitsAction}
+use Rattle.com_scene.specs.declared.actor.Actor.TheVariants as performer
 use Rattle.com_scene.specs.Actors.{acting_of}
 use Rattle.com_runtime.specs.Turns.{body_kind}
 use Rattle.com_state.specs.Parts.{Issuing, class_at, issue_at, named_at, openers_at, lanes_after}
 use Rattle.com_state.specs.SceneParts.{body_at, cells_at, script_at}
-use Rattle.com_view.specs.Seen.{Seen, home_seen, running_seen, sight_by}
+use Rattle.com_view.specs.Seen.{Seen, bare, home_seen, running_seen, sight_by}
 use Rattle.com_turns.specs.declared.turns.Turn.{Turn}
 
 -- ---- who acts
@@ -127,6 +129,24 @@ pub record IsTurn (w : Seen) (b : Books) (l : ℕ) (r : Option Outcome) (t : Tur
 abbrev pub IsNext : Seen → Books → ℕ → Option Outcome → Option Turn → Type 0
 IsNext w b l r None = lane_next w.scenario (sight_by w b) l ≡ None
 IsNext w b l r (Some t) = IsTurn w b l r t
+
+-- Neither a body nor a script acts in a lane.
+abbrev pub is_ruled : Seen → ℕ → Bool
+is_ruled w l =
+    not (is_body (top (bare w) l)) && not (is_script_turn (lane_sort w.scenario l) (top (bare w) l)
+    ((bare w).over l))
+
+-- The turn of an entry that is nobody's step: it issues no call and carries no references.
+abbrev pub ruled_turn : Deed → Turn
+ruled_turn d = record {
+  acting = performer.Nobody;
+  doing = record { deed = d; issued = None; carried = [] };
+}
+
+-- Where such an entry was made.
+abbrev pub turn_made : (made : Bool) → Deed → Option Turn
+turn_made true d = Some (ruled_turn d)
+turn_made false d = None
 
 abbrev pub deed_made : Option Turn → Option Deed
 deed_made None = None

@@ -13,7 +13,8 @@ ghost use Rattle.com_rules.specs.Room.{HasRoom};
 ghost use Rattle.com_scene.specs.Actors.{acting_of};
 ghost use Rattle.com_servant.specs.Rows.{one_served, row};
 ghost use Rattle.com_state.specs.Parts.{openers_at};
-ghost use Rattle.com_turns.specs.Turns.{ActsFit, IsNext, IsTurn, Steps, body_seen, deed_made, kind_seen};
+ghost use Rattle.com_turns.specs.Turns.{ActsFit, IsNext, IsTurn, Steps, body_seen, deed_made, is_ruled};
+ghost use Rattle.com_turns.specs.Turns.{kind_seen, turn_made};
 ghost use Rattle.com_turns.specs.Work.{BodiesWork};
 ghost use Rattle.com_view.specs.Seen.{bare, sight_by};
 
@@ -136,8 +137,38 @@ fn script_turn<B: Found>(
     own_step(view, books, alloc, lane, step)
 }
 
-// The turn of a lane in which neither a body nor a script acts.
-fn rule_turn<B: Found>(
+/// Whether neither a body nor a script acts in a lane, so that what it does is by the rules alone.
+pub fn is_ruled(view: &View<'_>, lane: u32) -> bool
+    ensures { result ≡ is_ruled view.now lane }
+{
+    if view.is_in_body(lane) {
+        return false;
+    }
+    !view.is_script_turn(lane)
+}
+
+/// Makes the entry of a lane in which neither a body nor a script acts, in the place of another; whether it makes
+/// one as things stand. It is nobody's step, it issues no call and it carries no references: it is the turn
+/// `ruled_turn` of its deed. The only error is want of memory.
+pub fn rule_turn<B: Found>(
+    view: &View<'_>,
+    books: &B,
+    alloc: Global,
+    lane: u32,
+    deed: &mut Deed,
+) -> Result<bool, Memory>
+    requires body { is_body (top (bare view.now) lane) ≡ false }
+    requires script { is_script_turn (lane_sort view.now.scenario lane)
+        (top (bare view.now) lane) ((bare view.now).over lane) ≡ false }
+    ensures turn { IfOk result (λ made. IsNext view.now (B.books books.now) lane None
+        (turn_made made deed.new)) }
+{
+    rule_deed(view, books, alloc, lane, deed)
+}
+
+// The turn of such a lane with the deed in it. It has a function of its own, since a turn is wide.
+#[inline(never)]
+fn ruled_turn<B: Found>(
     view: &View<'_>,
     books: &B,
     alloc: Global,
@@ -148,11 +179,12 @@ fn rule_turn<B: Found>(
         (top (bare view.now) lane) ((bare view.now).over lane) ≡ false }
     ensures turn { IfOk result (λ made. IsNext view.now (B.books books.now) lane None made) }
 {
-    let given = rule_deed(view, books, alloc, lane)?;
-    match given {
-        Some(deed) => Ok(Some(by_rule(alloc, deed))),
-        None => Ok(None),
+    let mut deed = Deed::End;
+    let made = rule_turn(view, books, alloc, lane, &mut deed)?;
+    if made {
+        return Ok(Some(by_rule(alloc, deed)));
     }
+    Ok(None)
 }
 
 /// The turn of a lane in which no body is innermost, and none where it makes no entry as things stand. Where
@@ -172,7 +204,7 @@ pub fn own_turn<B: Found>(
     ensures turn { IfOk result (λ made. IsNext view.now (B.books books.now) lane step.new made) }
 {
     if !view.is_script_turn(lane) {
-        return rule_turn(view, books, alloc, lane);
+        return ruled_turn(view, books, alloc, lane);
     }
     Ok(Some(script_turn(view, books, alloc, lane, step)?))
 }

@@ -94,27 +94,27 @@ idle_inbox v l Pool h e p =
 
 -- ---- each of the nine rules, where what is innermost is known
 
-own_is : (s : Scenario) (v : Sight) (l : ℕ) (o : Option Opener) → top v l ≡ o
+pub own_is : (s : Scenario) (v : Sight) (l : ℕ) (o : Option Opener) → top v l ≡ o
     → rule_own s v l ≡ option_and_then (λ c. where_true (enters_itself v c) (admission s v l c)) (waiting_call o)
 own_is s v l o e = ap (λ (t : Option Opener). option_and_then (λ c. where_true (enters_itself v c) (admission s v l c)) (waiting_call t)) e
 
-answer_is : (v : Sight) (l : ℕ) (o : Option Opener) → top v l ≡ o
+pub answer_is : (v : Sight) (l : ℕ) (o : Option Opener) → top v l ≡ o
     → rule_answer v l ≡ option_and_then (λ c. option_map (λ x. answered v c x (packet_left v c)) (due_of v c)) (waiting_call o)
 answer_is v l o e = ap (λ (t : Option Opener). option_and_then (λ c. option_map (λ x. answered v c x (packet_left v c)) (due_of v c)) (waiting_call t)) e
 
-retry_is : (s : Scenario) (v : Sight) (l : ℕ) (o : Option Opener) → top v l ≡ o
+pub retry_is : (s : Scenario) (v : Sight) (l : ℕ) (o : Option Opener) → top v l ≡ o
     → rule_retry s v l ≡ option_and_then (λ c. retried s v l c (v.phase c)) (waiting_call o)
 retry_is s v l o e = ap (λ (t : Option Opener). option_and_then (λ c. retried s v l c (v.phase c)) (waiting_call t)) e
 
-again_is : (v : Sight) (l : ℕ) (o : Option Opener) → top v l ≡ o
+pub again_is : (v : Sight) (l : ℕ) (o : Option Opener) → top v l ≡ o
     → rule_again v l ≡ option_and_then (λ c. posted_again v c (v.phase c)) (waiting_call o)
 again_is v l o e = ap (λ (t : Option Opener). option_and_then (λ c. posted_again v c (v.phase c)) (waiting_call t)) e
 
-pending_is : (s : Scenario) (v : Sight) (l : ℕ) (o : Option Opener) → top v l ≡ o
+pub pending_is : (s : Scenario) (v : Sight) (l : ℕ) (o : Option Opener) → top v l ≡ o
     → rule_pending s v l ≡ option_and_then (λ c. asked_on s v l c (not_asked (mark_of (v.mail l).marks c) (v.mail l).words)) (waiting_call o)
 pending_is s v l o e = ap (λ (t : Option Opener). option_and_then (λ c. asked_on s v l c (not_asked (mark_of (v.mail l).marks c) (v.mail l).words)) (waiting_call t)) e
 
-word_is : (v : Sight) (l : ℕ) (o : Option Opener) → top v l ≡ o → rule_word v l ≡ pumped v l o
+pub word_is : (v : Sight) (l : ℕ) (o : Option Opener) → top v l ≡ o → rule_word v l ≡ pumped v l o
 word_is v l o e = ap (λ (t : Option Opener). pumped v l t) e
 
 script_is : (s : Scenario) (v : Sight) (l : ℕ) (o : Option Opener) → top v l ≡ o
@@ -123,25 +123,25 @@ script_is s v l o e =
     some_where (is_script_turn (lane_sort s l) (top v l) (v.over l)) (scripted s v l (v.act l))
     ∙ ap (λ (t : Option Opener). is_script_turn (lane_sort s l) t (v.over l)) e
 
-no_script : (x : LaneSort) (o : Opener) (over : Bool) → is_script_turn x (Some o) over ≡ false
+pub no_script : (x : LaneSort) (o : Opener) (over : Bool) → is_script_turn x (Some o) over ≡ false
 no_script Thread o over = refl
 no_script Host o over = refl
 no_script Pool o over = refl
 no_script NoLane o over = refl
 
-bound_of : (os : List Opener) (o : Option Opener) (n : ℕ) → first os ≡ o → (pumps : (k : ℕ) → o ≡ Some (Pumps k) → ⊥) → bound_reached os n ≡ false
+pub bound_of : (os : List Opener) (o : Option Opener) (n : ℕ) → first os ≡ o → (pumps : (k : ℕ) → o ≡ Some (Pumps k) → ⊥) → bound_reached os n ≡ false
 bound_of [] o n e p = refl
 bound_of (Pumps k ∷ os) o n e p = absurd (p k (sym e))
 bound_of (Waits c ∷ os) o n e p = refl
 bound_of (Enters c x a ∷ os) o n e p = refl
 
-nobody_pumps : (k : ℕ) → None ≡ Some (Pumps k) → ⊥
+pub nobody_pumps : (k : ℕ) → None ≡ Some (Pumps k) → ⊥
 nobody_pumps k e = cc
 
-wait_is_none : (c k : ℕ) → Some (Waits c) ≡ Some (Pumps k) → ⊥
+pub wait_is_none : (c k : ℕ) → Some (Waits c) ≡ Some (Pumps k) → ⊥
 wait_is_none c k e = cc
 
-body_is_none : (c o a k : ℕ) → Some (Enters c o a) ≡ Some (Pumps k) → ⊥
+pub body_is_none : (c o a k : ℕ) → Some (Enters c o a) ≡ Some (Pumps k) → ⊥
 body_is_none c o a k e = cc
 
 inbox_some : (s : Scenario) (v : Sight) (l : ℕ) → is_some (rule_inbox s v l) ≡ is_some (admits_next v l (lane_sort s l))
@@ -162,7 +162,7 @@ asked_is s v l c (Some w) = some_where (in_sta (v.home l) && is_post (route_of (
 
 -- ---- the whole chain, behind the Final
 
-abbrev rest : Scenario → Sight → ℕ → Option Deed
+abbrev pub rest : Scenario → Sight → ℕ → Option Deed
 rest s v l =
     or_else (rule_own s v l) (or_else (rule_answer v l) (or_else (rule_bound v l) (or_else (rule_inbox s v l) (or_else (rule_retry s v l)
     (or_else (rule_again v l) (or_else (rule_pending s v l) (or_else (rule_word v l) (rule_script s v l))))))))

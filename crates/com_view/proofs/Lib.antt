@@ -9,3 +9,4 @@ pub mod Stepping
 mod Each
 pub mod Timed
 pub mod ByTop
+pub mod ByOpener

@@ -1,6 +1,7 @@
 pub mod Sorts
 pub mod Seen
 pub mod Nexts
+pub mod Ruled
 pub mod Reads
 pub mod Connected
 pub mod Opened

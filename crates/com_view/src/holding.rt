@@ -4,10 +4,8 @@ ghost use Rattle.std.specs.Prelude.{◌≡◌, not, length, IfOk, option_map};
 ghost use Rattle.com_refs_books.specs.Changes.{Books, cookie, packet};
 ghost use Rattle.com_model.specs.Deeds.{cookie_number};
 ghost use Rattle.com_model.specs.Endings.{is_leave};
-ghost use Rattle.com_model.specs.Lists.{any_of, first_that, or_else};
+ghost use Rattle.com_model.specs.Lists.{any_of, first_that};
 ghost use Rattle.com_model.specs.Rules.{answered, arguments_gone, due_of, packet_left, result_gone};
-ghost use Rattle.com_model.specs.Rules.{rule_answer, rule_inbox, rule_again, rule_own, rule_pending};
-ghost use Rattle.com_model.specs.Rules.{rule_retry, rule_word};
 ghost use Rattle.com_view.specs.Seen.{bare, sight_by};
 ghost use Rattle.com_view.specs.Given.{gone_in};
 
@@ -16,7 +14,6 @@ use com_base::{HResult, Memory};
 use com_deeds::is_leave;
 use com_model::Deed;
 use com_refs_books::Cookie;
-use std::alloc::Global;
 
 /// Who holds references, as the rules ask for it.
 pub trait References {
@@ -62,7 +59,7 @@ impl<'a> View<'a> {
     }
 
     // Whether the packet of an argument of a call was given up that travels as bytes.
-    fn has_lost_argument<R: References>(&self, refs: &R, call: u32) -> bool
+    pub(crate) fn has_lost_argument<R: References>(&self, refs: &R, call: u32) -> bool
         ensures { result ≡ arguments_gone (sight_by self.now (R.books refs.now)) call }
     {
         match self.calls.issue(call) {
@@ -101,7 +98,11 @@ impl<'a> View<'a> {
     }
 
     // What a call with an answer gives up or comes back with.
-    fn answer_of<R: References>(&self, refs: &R, call: u32) -> Result<Option<Deed>, Memory>
+    pub(crate) fn answer_of<R: References>(
+        &self,
+        refs: &R,
+        call: u32,
+    ) -> Result<Option<Deed>, Memory>
         ensures { IfOk result (λ deed. deed
             ≡ option_map (λ x. answered (sight_by self.now (R.books refs.now)) call x (packet_left
             (sight_by self.now (R.books refs.now)) call)) (due_of (sight_by self.now
@@ -118,75 +119,5 @@ impl<'a> View<'a> {
         }
         let is_gone = self.has_lost_result(refs, call);
         self.back(call, is_gone)
-    }
-
-    /// What the lane's own call with an answer gives up, or comes back with. The only error is want of
-    /// memory.
-    pub fn answer<R: References>(&self, refs: &R, lane: u32) -> Result<Option<Deed>, Memory>
-        ensures { IfOk result (λ deed. deed ≡ rule_answer (sight_by self.now (R.books refs.now)) lane) }
-    {
-        match self.own_call(lane) {
-            Some(call) => self.answer_of(refs, call),
-            None => Ok(None),
-        }
-    }
-
-    /// The admission of the lane's own direct or switched call. The only error is want of memory.
-    pub fn own<R: References>(
-        &self,
-        refs: &R,
-        alloc: Global,
-        lane: u32,
-    ) -> Result<Option<Deed>, Memory>
-        ensures { IfOk result (λ deed. deed
-            ≡ rule_own self.now.scenario (sight_by self.now (R.books refs.now)) lane) }
-    {
-        let Some(call) = self.own_call(lane) else {
-            return Ok(None);
-        };
-        if !self.enters_itself(call) {
-            return Ok(None);
-        }
-        let is_gone = self.has_lost_argument(refs, call);
-        let deed = self.admission(alloc, lane, call, is_gone)?;
-        Ok(Some(deed))
-    }
-
-    /// The admission of the first call of the inbox that the lane serves. The only error is want of memory.
-    pub fn inbox<R: References>(
-        &self,
-        refs: &R,
-        alloc: Global,
-        lane: u32,
-    ) -> Result<Option<Deed>, Memory>
-        ensures { IfOk result (λ deed. deed
-            ≡ rule_inbox self.now.scenario (sight_by self.now (R.books refs.now)) lane) }
-    {
-        let Some(call) = self.admits_next(lane) else {
-            return Ok(None);
-        };
-        let is_gone = self.has_lost_argument(refs, call);
-        let deed = self.admission(alloc, lane, call, is_gone)?;
-        Ok(Some(deed))
-    }
-
-    /// The entry that the first of the rules after that of the inbox gives a lane, but for that of its
-    /// script.
-    pub fn ruled_later(&self, lane: u32) -> Option<Deed>
-        ensures { (b : Books) → result ≡ or_else (rule_retry self.now.scenario (sight_by self.now b) lane)
-            (or_else (rule_again (sight_by self.now b) lane)
-            (or_else (rule_pending self.now.scenario (sight_by self.now b) lane)
-            (rule_word (sight_by self.now b) lane))) }
-    {
-        if let Some(deed) = self.retry(lane) {
-            return Some(deed);
-        }
-        if let Some(deed) = self.again(lane) {
-            return Some(deed);
-        }
-        if let Some(deed) = self.pending(lane) {
-            return Some(deed);
-        }
-        self.word(lane)
     }
 }

@@ -1,8 +1,8 @@
-//! What the rules read of a lane and of its own call.
+//! What the rules read of a lane and of a call.
 
 ghost use Rattle.std.specs.Prelude.{◌≡◌};
 ghost use Rattle.com_model.specs.Calls.{is_post, route_of};
-ghost use Rattle.com_model.specs.Rules.{own_call, since_out};
+ghost use Rattle.com_model.specs.Rules.{since_out};
 ghost use Rattle.com_model.specs.Tables.{lane_sort};
 ghost use Rattle.com_view.specs.Seen.{bare, home_seen, running_seen, filter_seen};
 ghost use Rattle.com_view.specs.Sorts.{sort_as};
@@ -11,7 +11,6 @@ use crate::sorts::{Sort, sort_of};
 use crate::view::View;
 use com_base::{HOST_STA, MTA};
 use com_deeds::is_post;
-use com_model::Opener;
 
 impl<'a> View<'a> {
     /// What a lane is for.
@@ -53,16 +52,6 @@ impl<'a> View<'a> {
             self.lanes.filter(lane)
         } else {
             None
-        }
-    }
-
-    /// The call that a lane waits for, where its innermost opener is one.
-    pub fn own_call(&self, lane: u32) -> Option<u32>
-        ensures { result ≡ own_call (bare self.now) lane }
-    {
-        match self.lanes.top(lane) {
-            Some(Opener::Waits { call }) => Some(call),
-            _ => None,
         }
     }
 

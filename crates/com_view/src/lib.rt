@@ -11,6 +11,7 @@ mod laws;
 mod next;
 mod objects;
 mod rules;
+mod ruling;
 mod sorts;
 mod standing;
 mod view;

@@ -3,7 +3,7 @@
 ghost use Rattle.std.specs.Prelude.{◌≡◌, is_some};
 ghost use Rattle.com_refs_books.specs.Changes.{Books};
 ghost use Rattle.com_model.specs.Openers.{is_body};
-ghost use Rattle.com_model.specs.Rules.{enters_itself, ruled, top};
+ghost use Rattle.com_model.specs.Rules.{ruled, top};
 ghost use Rattle.com_model.specs.Tables.{lane_sort};
 ghost use Rattle.com_view.specs.Nexts.{has_come, has_moved, has_posted, idle_has, kind_of, pump_has, stirs, wait_has};
 ghost use Rattle.com_view.specs.Seen.{bare, sight_by};
@@ -36,19 +36,6 @@ impl<'a> View<'a> {
             Some(Opener::Enters { .. }) => true,
             _ => false,
         }
-    }
-
-    /// Whether a call is direct or switched, and neither entered nor answered.
-    pub fn enters_itself(&self, call: u32) -> bool
-        ensures { result ≡ enters_itself (bare self.now) call }
-    {
-        if self.is_posted(call) {
-            return false;
-        }
-        if self.calls.admission(call).is_some() {
-            return false;
-        }
-        !self.is_answered(call)
     }
 
     /// Whether a call's answer is fixed.
@@ -107,7 +94,7 @@ impl<'a> View<'a> {
     }
 
     // Whether a call was judged, so that its caller's filter is asked, or waits for a time that has come.
-    fn has_moved(&self, call: u32) -> bool
+    pub(crate) fn has_moved(&self, call: u32) -> bool
         ensures { result ≡ has_moved (bare self.now) ((bare self.now).phase call) }
     {
         match self.calls.phase(call) {

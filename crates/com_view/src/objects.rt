@@ -31,7 +31,8 @@ impl<'a> View<'a> {
         }
     }
 
-    // The first of these objects that the lane serves.
+    // The first of these objects that the lane serves. It is a function of its own, since mostly nothing is dying.
+    #[inline(never)]
     fn first_served(&self, lane: u32, objects: &[u32]) -> Option<u32>
         ensures { result ≡ first (filter (λ o. serves_seen self.now lane
             (named_at self.now.objects o)) objects.now) }
@@ -48,7 +49,11 @@ impl<'a> View<'a> {
     pub fn dying(&self, lane: u32) -> Option<u32>
         ensures { result ≡ first (dying_seen self.now lane) }
     {
-        self.first_served(lane, self.fallen.as_slice())
+        let fallen = self.fallen.as_slice();
+        if fallen.is_empty() {
+            return None;
+        }
+        self.first_served(lane, fallen)
     }
 
     /// The Final of the first dying object that a lane serves.
