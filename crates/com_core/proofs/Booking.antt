@@ -17,7 +17,7 @@ use Rattle.com_reference_moves.specs.declared.moves.Move.{Move}
 use Rattle.com_reference_moves.specs.Steps.{moves_stepped, movings_of}
 use Rattle.com_reference_moves.specs.Tables.{ground_at, moves_in}
 use Rattle.com_objects.specs.Settled.{Rise}
-use Rattle.com_parts.specs.declared.change.Sent.{Sent}
+use Rattle.com_parts.specs.Fits.{Sent}
 use Rattle.com_parts.specs.Tables.{PartTables}
 use Rattle.com_laws_places.specs.Moves.{Moves, Move as Moving}
 use Rattle.com_turns.specs.Turns.{carried_seen, carried_with}

@@ -23,7 +23,7 @@ use Rattle.com_model.specs.Waiting.{post_effect, posted_last}
 use Rattle.com_model.proofs.Sights.{same-next}
 use Rattle.com_laws_dying.proofs.Losing.{members, stay}
 use Rattle.com_objects.specs.Settled.{DieBut, Falls}
-use Rattle.com_parts.specs.declared.change.Sent.{Sent}
+use Rattle.com_parts.specs.Fits.{Sent}
 use Rattle.com_parts.specs.Changes.{issuing_of, moment_at}
 use Rattle.com_parts.specs.Tables.{PartTables}
 use Rattle.com_runtime.proofs.Runs.{stands-later}

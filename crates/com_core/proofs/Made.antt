@@ -1,5 +1,5 @@
 -- What an entry makes of a core, from what it makes of the parts one after another.
-use Rattle.std.proofs.Common.{◌≡◌, ℕ, ◌+◌, ◌<◌, ◌^◌, Bool, List, Option, Result, Ok, Err, OnOk, ◌∙◌}
+use Rattle.std.proofs.Common.{◌≡◌, ℕ, ◌+◌, ◌<◌, ◌^◌, Bool, true, List, Option, None, Result, Ok, Err, OnOk, ◌∙◌, sym}
 use Rattle.std.specs.Prelude.{is_some, length}
 use Rattle.com_base.specs.declared.value.RefValue.{RefValue}
 use Rattle.com_body.specs.declared.frame.Outcome.{Outcome}
@@ -8,12 +8,13 @@ use Rattle.com_model.specs.declared.deeds.Entry.{Entry}
 use Rattle.com_model.specs.declared.scenario.Scenario.{Scenario}
 use Rattle.com_model.specs.Calls.{lane_of}
 use Rattle.com_model.specs.Frames.{Actor}
-use Rattle.com_parts.specs.declared.change.Sent.{Sent}
+use Rattle.com_parts.proofs.Others.{lanes_same, objects_same, rows_same}
+use Rattle.com_parts.specs.Fits.{Sent, is_calls_alone}
 use Rattle.com_parts.specs.Changes.{issuing_of, moment_at}
 use Rattle.com_parts.specs.Tables.{PartTables}
 use Rattle.com_refs.specs.Counts.{holders_of}
 use Rattle.com_state.specs.After.{filtered_by}
-use Rattle.com_state.specs.Parts.{calls_after, issue_at, lanes_after, named_at, objects_after, openers_at}
+use Rattle.com_state.specs.Parts.{Issuing, calls_after, issue_at, lanes_after, named_at, objects_after, openers_at}
 use Rattle.com_state.specs.SceneParts.{rows_after}
 use Rattle.com_turns.specs.Turns.{actor_later}
 use Rattle.com_view.specs.Seen.{filter_seen, home_seen, running_seen}
@@ -24,15 +25,28 @@ use Rattle.com_core.specs.Shown.{parts_shown}
 use Rattle.com_core.specs.Stands.{seen_by}
 
 -- The parts after a change that was finished, beside those before it was begun, which are the same but for room.
-pub becomes_finished : (p q t : PartTables) (e : Entry) (acting : Actor) (r : Option Outcome) (follows : Actor) (filtered given : Bool) (x y : Option Sent) (clock time : ℕ)
-    → parts_shown q ≡ parts_shown p → given ≡ filtered → y ≡ x → time ≡ clock
-    → Becomes q t e acting r follows given y time → Becomes p t e acting r follows filtered x clock
-becomes_finished p q t e acting r follows filtered given x y clock time same filter issued times b = record {
+pub becomes_finished : (p q t : PartTables) (e : Entry) (acting : Actor) (r : Option Outcome) (follows : Actor) (filtered : Bool) (x : Option Sent) (clock : ℕ)
+    → parts_shown q ≡ parts_shown p → Becomes q t e acting r follows filtered x clock → Becomes p t e acting r follows filtered x clock
+becomes_finished p q t e acting r follows filtered x clock same b = record {
   lanes = b.lanes ∙ (λ i. lanes_after (same i).lanes e);
   objects = b.objects ∙ (λ i. objects_after (same i).objects e);
-  calls = b.calls ∙ (λ i. calls_after (same i).objects (moment_at (same i).lanes e.lane (filter i) (times i)) (issuing_of (issued i)) (same i).calls.tables e);
+  calls = b.calls ∙ (λ i. calls_after (same i).objects (moment_at (same i).lanes e.lane filtered clock) (issuing_of x) (same i).calls.tables e);
   scene = b.scene ∙ (λ i. rows_after (named_at (same i).objects) acting r follows e (same i).scene);
   entries = b.entries ∙ (λ i. (same i).entries + 1);
+}
+
+-- The parts after an entry that changes nothing but the calls.
+pub becomes_alone : (p q : PartTables) (e : Entry) (filtered : Bool) (clock : ℕ) → is_calls_alone e.deed ≡ true
+    → q.lanes ≡ p.lanes → q.objects ≡ p.objects
+    → ((i : Issuing) → q.calls.tables ≡ calls_after p.objects (moment_at p.lanes e.lane filtered clock) i p.calls.tables e)
+    → q.scene ≡ p.scene → q.entries ≡ p.entries + 1
+    → (acting follows : Actor) (x : Option Sent) → Becomes p q e acting None follows filtered x clock
+becomes_alone p q e filtered clock alone lanes objects calls scene entries acting follows x = record {
+  lanes = lanes ∙ sym (lanes_same p.lanes e.lane e.deed alone);
+  objects = objects ∙ sym (objects_same p.objects e.lane e.deed alone);
+  calls = calls (issuing_of x);
+  scene = scene ∙ sym (rows_same (named_at p.objects) acting follows e.lane e.deed p.scene alone);
+  entries = entries;
 }
 
 -- All that an entry changes, with what its change rests on.

@@ -12,7 +12,7 @@ use Rattle.com_reference_moves.specs.Steps.{moves_stepped}
 use Rattle.com_reference_moves.specs.Tables.{ground_at, moves_at, moves_in}
 use Rattle.com_reference_moves.proofs.Stands.{moves-tables}
 use Rattle.com_reference_moves.proofs.Stepped.{moves-stepped}
-use Rattle.com_parts.specs.declared.change.Sent.{Sent}
+use Rattle.com_parts.specs.Fits.{Sent}
 use Rattle.com_parts.specs.Tables.{PartTables}
 use Rattle.com_laws_places.specs.Moves.{Moves}
 use Rattle.com_core.specs.Stands.{Stands, IsGiven}

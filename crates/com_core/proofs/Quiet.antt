@@ -30,6 +30,7 @@ use Rattle.com_objects.specs.Settled.{DieBut, Falls, Rise, without}
 use Rattle.com_objects.proofs.Settling.{settled, without_none}
 use Rattle.com_reference_moves.specs.declared.moves.Move.{Move}
 use Rattle.com_reference_moves.specs.declared.written.Written.{Written}
+use Rattle.com_parts.specs.Fits.{is_calls_alone}
 use Rattle.com_parts.specs.Tables.{PartTables}
 use Rattle.com_reference_moves.specs.Steps.{acted_stepped, arrived_stepped, ended_stepped, given_moves, place_write, slots_stepped, step_moves}
 use Rattle.com_reference_moves.specs.Tables.{ground_at}
@@ -48,7 +49,7 @@ use Rattle.com_state.specs.Parts.{ObjectTables}
 use Rattle.com_state.specs.SceneParts.{destination_at}
 use Rattle.com_core.specs.Changes.{Settles, fresh_by}
 use Rattle.com_core.specs.Making.{Booked}
-use Rattle.com_core.specs.Quiet.{Still, comes_bare, has_result, is_slot, is_still, left_held, moves_nothing, writes_by, writes_reference}
+use Rattle.com_core.specs.Quiet.{Still, comes_bare, has_result, is_alone, is_slot, is_still, left_held, moves_nothing, writes_by, writes_reference}
 
 clash : false ≡ true → ⊥
 clash e = cc
@@ -201,6 +202,24 @@ still_entry p w a r b e q =
       other = λ n. still-other p w n e.deed a deed-is;
       finals_none = still-finals p w e.deed deed-is;
     }
+
+-- ---- an entry that changes nothing but the calls
+
+pub alone_none : (r : Option Outcome) (d : Deed) → is_alone r d ≡ true → r ≡ None
+alone_none None d q = refl
+alone_none (Some x) d q = absurd (clash q)
+
+pub alone_deed : (r : Option Outcome) (d : Deed) → is_alone r d ≡ true → is_calls_alone d ≡ true
+alone_deed None d q = q
+alone_deed (Some x) d q = absurd (clash q)
+
+pub alone_still : (p : PartTables) (w : Held) (d : Deed) → is_calls_alone d ≡ true → is_still p w None d ≡ true
+alone_still p w (deed.Verdict c t v) q = refl
+alone_still p w (deed.Refuse c hr) q = refl
+alone_still p w (deed.Retry c n) q = refl
+alone_still p w (deed.Again c) q = refl
+alone_still p w (deed.Tick t) q = refl
+alone_still p w _ q = absurd (clash q)
 
 -- ---- the books
 

@@ -11,7 +11,7 @@ use Rattle.com_lanes.specs.First.{first_lanes}
 use Rattle.com_laws_ranges.proofs.Standing.{limited}
 use Rattle.com_state.specs.Parts.{LaneTables, lanes_after}
 use Rattle.com_scene.specs.Kept.{HasSlots}
-use Rattle.com_parts.specs.declared.change.Sent.{Sent}
+use Rattle.com_parts.specs.Fits.{Sent}
 use Rattle.com_parts.specs.Tables.{PartTables}
 use Rattle.com_ledger.specs.Most.{Most}
 use Rattle.com_core.specs.declared.running.Running.{Running}

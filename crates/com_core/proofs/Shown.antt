@@ -10,7 +10,7 @@ use Rattle.com_model.specs.declared.deeds.Entry.{Entry}
 use Rattle.com_model.specs.declared.scenario.Scenario.{Scenario}
 use Rattle.com_model.specs.Frames.{Actor}
 use Rattle.com_model.specs.State.{State}
-use Rattle.com_parts.specs.declared.change.Sent.{Sent}
+use Rattle.com_parts.specs.Fits.{Sent}
 use Rattle.com_parts.specs.Changes.{IsSame}
 use Rattle.com_parts.specs.Tables.{PartTables}
 use Rattle.com_ledger.specs.Most.{Most}

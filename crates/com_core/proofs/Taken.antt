@@ -17,7 +17,7 @@ use Rattle.com_model.proofs.Kept.{legal-kept}
 use Rattle.com_laws_ranges.proofs.Standing.{place}
 use Rattle.com_laws_ranges.proofs.Takes.{taken, writes}
 use Rattle.com_ledger.proofs.Following.{ground-is}
-use Rattle.com_parts.specs.declared.change.Sent.{Sent}
+use Rattle.com_parts.specs.Fits.{Sent}
 use Rattle.com_parts.specs.Fits.{Fits, HasIssued, IsWriting}
 use Rattle.com_parts.specs.Tables.{PartTables}
 use Rattle.com_refs_books.specs.Changes.{Books}

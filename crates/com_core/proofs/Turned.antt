@@ -36,7 +36,8 @@ use Rattle.com_turns.proofs.Stands.{acting_stands, after_stands, filtered_stands
 use Rattle.com_refs_rows.specs.Books.{Held, books_held}
 use Rattle.com_core.specs.declared.running.Running.{Running}
 use Rattle.com_core.specs.Seen.{IsWhole, TurnsTo, core_state, kept_of}
-use Rattle.com_core.specs.Changes.{Takes, sent_by}
+use Rattle.com_parts.specs.Fits.{sent_by}
+use Rattle.com_core.specs.Changes.{Takes}
 use Rattle.com_core.specs.Making.{Changed, IsCore, MakesNext}
 use Rattle.com_core.specs.Stands.{IsGiven, IsReached, IsSent, Stands, seen_by}
 use Rattle.com_core.proofs.Booking.{booked_later}

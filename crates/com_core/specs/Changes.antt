@@ -1,7 +1,6 @@
 -- What an entry makes of the parts of a core, and of the list of the dying.
-use Rattle.std.specs.Prelude.{◌≡◌, ℕ, ◌+◌, ◌<◌, ◌^◌, Bool, List, Option, Some, None, filter, length}
+use Rattle.std.specs.Prelude.{◌≡◌, ℕ, ◌+◌, ◌<◌, ◌^◌, Bool, List, Option, filter, length}
 use Rattle.com_body.specs.declared.frame.Outcome.{Outcome}
-use Rattle.com_calls.specs.declared.rows.Issued.{Issued}
 use Rattle.com_model.specs.declared.deeds.Deed.{Deed}
 use Rattle.com_model.specs.declared.deeds.Entry.{Entry}
 use Rattle.com_model.specs.Calls.{issues, object_of}
@@ -9,18 +8,13 @@ use Rattle.com_model.specs.Dying.{fallen_more}
 use Rattle.com_model.specs.Frames.{Actor}
 use Rattle.com_model.specs.Objects.{finals}
 use Rattle.com_objects.specs.Settled.{DieBut, Falls}
-use Rattle.com_parts.specs.declared.change.Sent.{Sent}
+use Rattle.com_parts.specs.Fits.{Sent}
 use Rattle.com_parts.specs.Changes.{issuing_of, moment_at}
 use Rattle.com_parts.specs.Fits.{Fits, HasIssued, IsWriting}
 use Rattle.com_parts.specs.Tables.{PartTables}
 use Rattle.com_state.specs.Parts.{ObjectTables, lanes_after, objects_after, calls_after, named_at}
 use Rattle.com_state.specs.SceneParts.{rows_after}
 use Rattle.com_ledger.specs.Falling.{begins_by, other_object, placed_in}
-
--- What the parts are told of the call that an entry issues.
-abbrev pub sent_by : Option Issued → Option Sent
-sent_by None = None
-sent_by (Some x) = Some (record { refusal = x.refusal; values = x.values })
 
 -- The parts take an entry, with the clock before it, the step of whoever makes it, and what the call has that
 -- it issues: there is what it names, and no number that it counts goes past its type.

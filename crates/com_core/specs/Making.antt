@@ -21,7 +21,7 @@ use Rattle.com_reference_moves.specs.declared.moves.Move.{Move}
 use Rattle.com_reference_moves.specs.Steps.{moves_stepped, movings_of}
 use Rattle.com_reference_moves.specs.Tables.{ground_at}
 use Rattle.com_objects.specs.Settled.{Rise}
-use Rattle.com_parts.specs.declared.change.Sent.{Sent}
+use Rattle.com_parts.specs.Fits.{Sent}
 use Rattle.com_parts.specs.Tables.{PartTables}
 use Rattle.com_laws_places.specs.Moves.{Moves}
 use Rattle.com_refs.specs.Counts.{holders_of}

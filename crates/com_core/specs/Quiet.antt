@@ -16,6 +16,7 @@ use Rattle.com_laws_places.specs.Moves.{no_moves}
 use Rattle.com_ledger.specs.Bodies.{entered_after}
 use Rattle.com_ledger.specs.Falling.{other_object}
 use Rattle.com_ledger.specs.Quiet.{LeavesBooks, calls_passed}
+use Rattle.com_parts.specs.Fits.{is_calls_alone}
 use Rattle.com_parts.specs.Tables.{PartTables}
 use Rattle.com_reference_moves.specs.Steps.{moves_stepped}
 use Rattle.com_reference_moves.specs.Tables.{ground_at}
@@ -85,6 +86,11 @@ moves_nothing p w _ = false
 -- An entry of such a deed, by the step of whoever makes it, or by none.
 abbrev pub is_still : PartTables → Held → Option Outcome → Deed → Bool
 is_still p w r d = moves_nothing p w d && not (writes_by r)
+
+-- The entry changes nothing but the calls, and nobody's step makes it.
+abbrev pub is_alone : Option Outcome → Deed → Bool
+is_alone None d = is_calls_alone d
+is_alone (Some r) d = false
 
 -- What such an entry leaves as it was: places, the books but for the call of an Out, the bodies that run, and
 -- what is dying.

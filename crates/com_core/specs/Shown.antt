@@ -17,6 +17,8 @@ no_rooms = record {
   objects = record { tables = record { makings = []; finaled = [] }; made = 0; gone = 0 };
   scene = record { seats = []; calls = 0; objects = 0 };
   taken = record { acting = None; packet = None; after = None; body = None; value = None };
+  left = None;
+  owners = [];
 }
 
 -- The parts without what is said of room.

@@ -8,7 +8,7 @@ use Rattle.com_model.specs.Calls.{issues}
 use Rattle.com_model.specs.Formed.{Formed}
 use Rattle.com_model.specs.Frames.{Actor}
 use Rattle.com_model.specs.State.{State, StandsFor, SceneTables, BookTables, book_tables, books_in}
-use Rattle.com_parts.specs.declared.change.Sent.{Sent}
+use Rattle.com_parts.specs.Fits.{Sent}
 use Rattle.com_parts.specs.Tables.{PartTables}
 use Rattle.com_state.specs.After.{acting_in, step_in, actor_after, issuing_in, moment_in}
 use Rattle.com_state.specs.Parts.{LaneTables, ObjectTables, CallTables, lanes_of, objects_of, calls_of}

@@ -1,11 +1,11 @@
 //! The change of a core by an entry.
 
-ghost use Rattle.std.specs.Prelude.{◌≡◌, ℕ, ◌+◌, ◌<◌, ◌≤◌, ◌^◌, All, IfOk, List, OnErr, OnOk, Option, true};
+ghost use Rattle.std.specs.Prelude.{◌≡◌, ℕ, ◌+◌, ◌<◌, ◌≤◌, ◌^◌, All, IfOk, List, None, OnErr, OnOk, Option, true};
 ghost use Rattle.std.specs.Prelude.{is_some, length, map, slice_index_or, vec_capacity};
 ghost use Rattle.com_base.specs.declared.limits.TheConstants.{ENTRY_2_LIMIT};
 ghost use Rattle.com_base.specs.declared.value.RefValue.{RefValue};
 ghost use Rattle.com_calls.specs.Kept.{IsNamed};
-ghost use Rattle.com_core.specs.Changes.{Becomes, Settles, Takes, sent_by};
+ghost use Rattle.com_core.specs.Changes.{Becomes, Settles, Takes};
 ghost use Rattle.com_core.specs.Making.{Booked, BookedBy, Brings, Changed};
 ghost use Rattle.com_core.specs.Quiet.{is_still};
 ghost use Rattle.com_core.specs.Seen.{IsAsBefore, IsWhole as IsWholeCore, TriesTo, TurnsTo};
@@ -25,13 +25,14 @@ ghost use Rattle.com_model.specs.declared.scenario.Scenario.{Scenario};
 ghost use Rattle.com_model.specs.Calls.{issues, lane_of, object_of};
 ghost use Rattle.com_model.specs.Clock.{ticked};
 ghost use Rattle.com_model.specs.Ends.{limit};
+ghost use Rattle.com_model.specs.Frames.{Actor as Acting};
 ghost use Rattle.com_model.specs.Lists.{number_or_zero};
 ghost use Rattle.com_model.specs.Tables.{lanes};
 ghost use Rattle.com_reference_moves.specs.declared.moves.Move.{Move};
 ghost use Rattle.com_reference_moves.specs.Steps.{IsWhole, moves_stepped, movings_of};
 ghost use Rattle.com_reference_moves.specs.Tables.{ground_at};
 ghost use Rattle.com_parts.specs.Begins.{IsBegun};
-ghost use Rattle.com_parts.specs.Fits.{Fits, HasIssued, IsWriting};
+ghost use Rattle.com_parts.specs.Fits.{Fits, HasIssued, IsWriting, Sent, is_calls_alone, sent_by};
 ghost use Rattle.com_refs.specs.Counts.{holders_of};
 ghost use Rattle.com_scene.specs.Actors.{acting_of};
 ghost use Rattle.com_scene.specs.Kept.{HasSlots};
@@ -43,12 +44,13 @@ ghost use Rattle.com_turns.specs.Turns.{IsNext, IsTurn, actor_later, kind_seen};
 ghost use Rattle.com_view.specs.Seen.{filter_seen, home_seen, running_seen};
 
 use crate::running::{Running, forget};
+use crate::still::is_alone;
 use com_base::{Memory, RefValue};
 use com_body::Outcome;
 use com_calls::Issued;
 use com_ledger::{Context, DyingScan, count_bodies, other_by, released_by};
 use com_model::{Deed, Entry, Scenario};
-use com_parts::{Begun, Change, Sent};
+use com_parts::Change;
 use com_reference_moves::EntrySetting;
 use com_scene::{ActedEntry, Actor};
 use com_servant::Servant;
@@ -69,19 +71,6 @@ struct Basis {
 struct Seat {
     home: Option<u32>,
     running: Option<u32>,
-}
-
-// What the parts are told of the call that an entry issues.
-fn sent_of(issued: Option<Issued>) -> Option<Sent>
-    ensures { result ≡ sent_by issued }
-{
-    match issued {
-        None => None,
-        Some(issued) => Some(Sent {
-            refusal: issued.refusal,
-            values: issued.values,
-        }),
-    }
 }
 
 // The clock after an entry.
@@ -107,6 +96,15 @@ impl Running {
             home: view.home(lane),
             running: view.running(lane),
         }
+    }
+
+    // Whether the caller's lane of the call that an entry names has a message filter, where it is a Verdict.
+    fn has_filter(&self, scenario: &Scenario, deed: &Deed) -> bool
+        ensures { result ≡ filtered_by (λ c. is_some (filter_seen
+            (seen_by scenario.now self.now.parts self.now.fallen.objects self.now.clock)
+            (lane_of (issue_at self.now.parts.calls.tables c)))) deed.now }
+    {
+        is_filtered(&self.view(scenario), deed)
     }
 
     // What an entry's change of the parts rests on.
@@ -237,24 +235,14 @@ impl Running {
     // Begins the change of the parts by an entry that they take: takes all memory that they want for it. The
     // only error is want of memory. Whatever is answered, the parts are as before but for room.
     #[tactic(auto, using(crate::proofs::Shown::parts_alike))]
-    fn begin_parts(
-        &mut self,
-        basis: Basis,
-        acting: Actor,
-        issued: Option<Issued>,
-        entry: &Entry,
-    ) -> Result<Begun, Memory>
+    fn begin_parts(&mut self, change: &Change<'_>) -> Result<(), Memory>
         requires fits { Fits self.old.parts.lanes self.old.parts.objects self.old.parts.calls
-            entry.now.lane entry.now.deed self.old.clock }
-        requires sent { HasIssued entry.now.deed (sent_by issued) }
-        requires target { named_at self.old.parts.objects (object_of (issues entry.now.lane entry.now.deed))
-            + 1 < 2 ^ 32 }
+            change.now.entry.lane change.now.entry.deed.now change.now.clock }
+        requires target { named_at self.old.parts.objects
+            (object_of (issues change.now.entry.lane change.now.entry.deed.now)) + 1 < 2 ^ 32 }
         requires room { self.old.parts.entries < ENTRY_2_LIMIT }
-        ensures begun { IfOk result (λ begun. IsBegun self.new.parts (acting_of acting)
-            (acting_of basis.after) entry.now.lane entry.now.deed begun) }
-        ensures issued { IfOk result (λ begun. begun.calling.issued ≡ sent_by issued) }
-        ensures has_filter { IfOk result (λ begun. begun.calling.has_filter ≡ basis.has_filter) }
-        ensures time { IfOk result (λ begun. begun.calling.clock ≡ self.old.clock) }
+        ensures begun { OnOk result (IsBegun self.new.parts (acting_of change.now.entry.acting)
+            (acting_of change.now.entry.after) change.now.entry.lane change.now.entry.deed.now change.now.clock) }
         ensures same { parts_shown self.new.parts ≡ parts_shown self.old.parts }
         ensures entered { self.new.entered ≡ self.old.entered }
         ensures ledger { self.new.ledger ≡ self.old.ledger }
@@ -263,15 +251,6 @@ impl Running {
         ensures fresh { self.new.fresh ≡ self.old.fresh }
         ensures clock { self.new.clock ≡ self.old.clock }
     {
-        let change = Change {
-            lane: entry.lane,
-            deed: &entry.deed,
-            acting,
-            after: basis.after,
-            has_filter: basis.has_filter,
-            clock: self.clock,
-            issued: sent_of(issued),
-        };
         self.parts.begin(change)
     }
 
@@ -279,20 +258,21 @@ impl Running {
     #[tactic(auto, using(crate::proofs::Whole::frame_fits))]
     fn finish_parts(
         &mut self,
-        basis: Basis,
-        acting: Actor,
+        change: &Change<'_>,
         outcome: &mut Option<Outcome>,
-        entry: &Entry,
-        begun: Begun,
+        issued: &mut Option<Issued>,
     )
         requires bodies { All HasSlots self.old.parts.scene.bodies }
-        requires deed { FitsDeed entry.now.deed }
+        requires deed { FitsDeed change.now.entry.deed.now }
         requires whole { IsWhole outcome.old }
         requires writes { IsWriting outcome.old }
-        requires begun { IsBegun self.old.parts (acting_of acting) (acting_of basis.after)
-            entry.now.lane entry.now.deed begun }
-        ensures becomes { Becomes self.old.parts self.new.parts entry.now (acting_of acting) outcome.old
-            (acting_of basis.after) begun.calling.has_filter begun.calling.issued begun.calling.clock }
+        requires sent { HasIssued change.now.entry.deed.now (sent_by issued.old) }
+        requires begun { IsBegun self.old.parts (acting_of change.now.entry.acting)
+            (acting_of change.now.entry.after) change.now.entry.lane change.now.entry.deed.now change.now.clock }
+        ensures becomes { Becomes self.old.parts self.new.parts
+            (record { lane = change.now.entry.lane; deed = change.now.entry.deed.now })
+            (acting_of change.now.entry.acting) outcome.old (acting_of change.now.entry.after)
+            change.now.has_filter (sent_by issued.old) change.now.clock }
         ensures bodies { All HasSlots self.new.parts.scene.bodies }
         ensures entered { self.new.entered ≡ self.old.entered }
         ensures ledger { self.new.ledger ≡ self.old.ledger }
@@ -300,13 +280,7 @@ impl Running {
         ensures fresh { self.new.fresh ≡ self.old.fresh }
         ensures clock { self.new.clock ≡ self.old.clock }
     {
-        let acted = ActedEntry {
-            lane: entry.lane,
-            deed: &entry.deed,
-            acting,
-            after: basis.after,
-        };
-        self.parts.finish(&acted, outcome, begun);
+        self.parts.finish(change, outcome, issued);
     }
 
     // The running bodies and the dying objects after the entry, whose parts and books are those after it.
@@ -348,17 +322,17 @@ impl Running {
         basis: Basis,
         acting: Actor,
         outcome: &mut Option<Outcome>,
-        issued: Option<Issued>,
+        issued: &mut Option<Issued>,
         entry: &Entry,
     ) -> Result<(), Memory>
         requires still { is_still self.old.parts self.old.ledger outcome.old entry.now.deed ≡ true }
         requires sound { Sound self.old.parts self.old.entered.counts }
         requires room { self.old.parts.entries < ENTRY_2_LIMIT }
-        requires takes { Takes self.old.parts self.old.clock outcome.old (sent_by issued) entry.now }
+        requires takes { Takes self.old.parts self.old.clock outcome.old (sent_by issued.old) entry.now }
         requires whole { IsWhole outcome.old }
         ensures becomes { OnOk result (Becomes self.old.parts self.new.parts entry.now
             (acting_of acting) outcome.old
-            (acting_of basis.after) basis.has_filter (sent_by issued) self.old.clock) }
+            (acting_of basis.after) basis.has_filter (sent_by issued.old) self.old.clock) }
         ensures bodies { OnOk result (All HasSlots self.new.parts.scene.bodies) }
         ensures runs { OnOk result ((n : ℕ) → Most n self.old.entered.counts
             → Most (n + 1) self.new.entered.counts) }
@@ -375,9 +349,52 @@ impl Running {
         ensures err { OnErr result (IsAsBefore self.old self.new) }
         ensures step { OnErr result (outcome.new ≡ outcome.old) }
     {
-        let begun = self.begin_parts(basis, acting, issued, entry)?;
+        let change = Change {
+            entry: ActedEntry {
+                lane: entry.lane,
+                deed: &entry.deed,
+                acting,
+                after: basis.after,
+            },
+            has_filter: basis.has_filter,
+            clock: self.clock,
+        };
+        self.begin_parts(&change)?;
         self.ledger.pass(&entry.deed)?;
-        self.finish_parts(basis, acting, outcome, entry, begun);
+        self.finish_parts(&change, outcome, issued);
+        self.clock = clock_after(&entry.deed, self.clock);
+        Ok(())
+    }
+
+    // Makes of all what an entry makes of it that changes nothing but the calls, and that nobody's step makes: no
+    // reference moves, no row of the books changes, no body begins or ends, and no object begins to die. The only
+    // error is want of memory, and then nothing has changed.
+    #[tactic(auto, using(crate::proofs::Shown::as_moved, crate::proofs::Shown::held_alike))]
+    fn change_alone(&mut self, has_filter: bool, entry: &Entry) -> Result<(), Memory>
+        requires alone { is_calls_alone entry.now.deed ≡ true }
+        requires sound { Sound self.old.parts self.old.entered.counts }
+        requires room { self.old.parts.entries < ENTRY_2_LIMIT }
+        requires fits { Fits self.old.parts.lanes self.old.parts.objects self.old.parts.calls
+            entry.now.lane entry.now.deed self.old.clock }
+        ensures becomes { OnOk result ((acting after : Acting) (x : Option Sent)
+            → Becomes self.old.parts self.new.parts entry.now acting None after has_filter x self.old.clock) }
+        ensures bodies { OnOk result (All HasSlots self.new.parts.scene.bodies) }
+        ensures runs { OnOk result ((n : ℕ) → Most n self.old.entered.counts
+            → Most (n + 1) self.new.entered.counts) }
+        ensures entered { OnOk result ((acting : Acting) → self.new.entered.counts
+            ≡ entered_after entry.now.deed acting self.old.entered.counts) }
+        ensures fallen { OnOk result ((acting : Acting) → Settles self.new.parts.objects
+            (holders_of self.new.ledger.tables) self.new.entered.counts
+            self.old.fallen.objects self.new.ledger.touched entry.now.deed acting self.new.fallen.objects) }
+        ensures clock { OnOk result (self.new.clock ≡ ticked entry.now.deed self.old.clock) }
+        ensures booked { OnOk result ((s : Scenario) (home running : Option ℕ) (carried : List RefValue)
+            (acting after : Acting) → BookedBy s self.old.parts home running carried entry.now acting None
+            after self.old.ledger self.new.ledger) }
+        ensures err { OnErr result (IsAsBefore self.old self.new) }
+    {
+        self.ledger.pass(&entry.deed)?;
+        self.parts
+            .apply_alone(entry.lane, &entry.deed, has_filter, self.clock);
         self.clock = clock_after(&entry.deed, self.clock);
         Ok(())
     }
@@ -394,14 +411,14 @@ impl Running {
         seat: Seat,
         acting: Actor,
         outcome: &mut Option<Outcome>,
-        issued: Option<Issued>,
+        issued: &mut Option<Issued>,
         carried: &[RefValue],
         entry: &Entry,
     ) -> Result<(), Memory>
         requires sound { Sound self.old.parts self.old.entered.counts }
         requires few { Few self.old.parts }
         requires room { self.old.parts.entries < ENTRY_2_LIMIT }
-        requires takes { Takes self.old.parts self.old.clock outcome.old (sent_by issued) entry.now }
+        requires takes { Takes self.old.parts self.old.clock outcome.old (sent_by issued.old) entry.now }
         requires fits { FitsBooks scenario.now.classes carried.now (number_or_zero seat.running)
             (tally self.old.ledger.tables self.old.ledger.calls) entry.now.deed }
         requires brings { Brings scenario.now self.old.parts self.old.ledger entry.now
@@ -409,7 +426,7 @@ impl Running {
         requires whole { IsWhole outcome.old }
         ensures becomes { OnOk result (Becomes self.old.parts self.new.parts entry.now
             (acting_of acting) outcome.old
-            (acting_of basis.after) basis.has_filter (sent_by issued) self.old.clock) }
+            (acting_of basis.after) basis.has_filter (sent_by issued.old) self.old.clock) }
         ensures bodies { OnOk result (All HasSlots self.new.parts.scene.bodies) }
         ensures runs { OnOk result ((n : ℕ) → Most n self.old.entered.counts
             → Most (n + 1) self.new.entered.counts) }
@@ -426,10 +443,20 @@ impl Running {
         ensures err { OnErr result (IsAsBefore self.old self.new) }
         ensures step { OnErr result (outcome.new ≡ outcome.old) }
     {
+        let change = Change {
+            entry: ActedEntry {
+                lane: entry.lane,
+                deed: &entry.deed,
+                acting,
+                after: basis.after,
+            },
+            has_filter: basis.has_filter,
+            clock: self.clock,
+        };
         self.prepare(seat.home, basis.after, acting, outcome, entry)?;
-        let begun = self.begin_parts(basis, acting, issued, entry)?;
+        self.begin_parts(&change)?;
         self.book(scenario, seat, carried, entry)?;
-        self.finish_parts(basis, acting, outcome, entry, begun);
+        self.finish_parts(&change, outcome, issued);
         self.settle(&entry.deed, acting);
         self.clock = clock_after(&entry.deed, self.clock);
         Ok(())
@@ -441,7 +468,7 @@ impl Running {
         scenario: &Scenario,
         acting: Actor,
         outcome: &mut Option<Outcome>,
-        issued: Option<Issued>,
+        issued: &mut Option<Issued>,
         carried: &[RefValue],
         entry: &Entry,
     ) -> Result<(), Memory>
@@ -449,7 +476,7 @@ impl Running {
         requires few { Few self.old.parts }
         requires whole { IsWhole outcome.old }
         requires room { self.old.parts.entries < ENTRY_2_LIMIT }
-        requires takes { Takes self.old.parts self.old.clock outcome.old (sent_by issued) entry.now }
+        requires takes { Takes self.old.parts self.old.clock outcome.old (sent_by issued.old) entry.now }
         requires fits { FitsBooks scenario.now.classes carried.now (number_or_zero (running_seen
             (seen_by scenario.now self.old.parts self.old.fallen.objects self.old.clock) entry.now.lane))
             (tally self.old.ledger.tables self.old.ledger.calls) entry.now.deed }
@@ -463,10 +490,14 @@ impl Running {
             (Changed scenario.now self.old.parts self.new.parts self.old.ledger self.new.ledger
             self.old.entered.counts self.new.entered.counts self.old.fallen.objects self.new.fallen.objects
             self.old.clock entry.now (acting_of acting)
-            outcome.old carried.now (sent_by issued)) }
+            outcome.old carried.now (sent_by issued.old)) }
         ensures err { OnErr result (IsAsBefore self.old self.new) }
         ensures step { OnErr result (outcome.new ≡ outcome.old) }
     {
+        if is_alone(outcome, &entry.deed) {
+            let has_filter = self.has_filter(scenario, &entry.deed);
+            return self.change_alone(has_filter, entry);
+        }
         let basis = self.basis(scenario, entry);
         if self.is_still(outcome, &entry.deed) {
             return self.change_still(basis, acting, outcome, issued, entry);
@@ -507,11 +538,18 @@ impl Running {
         let Turn { acting, doing } = made;
         let Doing {
             deed,
-            issued,
+            mut issued,
             carried,
         } = doing;
         *entry = Entry { lane, deed };
-        self.make(scenario, acting, outcome, issued, carried.as_slice(), entry)
+        self.make(
+            scenario,
+            acting,
+            outcome,
+            &mut issued,
+            carried.as_slice(),
+            entry,
+        )
     }
 
     // The turn of a lane, where it can step.
@@ -611,6 +649,6 @@ impl Running {
             deed: Deed::Tick { clock },
         };
         let mut step = None;
-        self.make(scenario, Actor::Nobody, &mut step, None, &[], entry)
+        self.make(scenario, Actor::Nobody, &mut step, &mut None, &[], entry)
     }
 }

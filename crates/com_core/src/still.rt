@@ -1,7 +1,7 @@
 //! Which entries move no reference, have no row in the books, and begin and end no body.
 
 ghost use Rattle.std.specs.Prelude.{◌≡◌, None};
-ghost use Rattle.com_core.specs.Quiet.{comes_bare, is_slot, is_still, left_held, moves_nothing};
+ghost use Rattle.com_core.specs.Quiet.{comes_bare, is_alone, is_slot, is_still, left_held, moves_nothing};
 ghost use Rattle.com_core.specs.Quiet.{writes_by, writes_reference};
 ghost use Rattle.com_model.specs.Frames.{value_reference};
 ghost use Rattle.com_model.specs.Lists.{from_one};
@@ -13,6 +13,7 @@ use com_base::{RefValue, Value};
 use com_body::{Action, Destination, Outcome};
 use com_calls::Calls;
 use com_model::Deed;
+use com_parts::is_calls_alone;
 
 // Whether an action writes a reference, or null, at a slot or a link.
 fn writes_reference(action: &Action) -> bool
@@ -56,6 +57,16 @@ fn left_reference(calls: &Calls, call: u32) -> Option<RefValue>
     match calls.left_value(call) {
         Some(Value::Ref(held)) => *held,
         _ => None,
+    }
+}
+
+/// Whether an entry changes nothing but the calls, and nobody's step makes it.
+pub fn is_alone(outcome: &Option<Outcome>, deed: &Deed) -> bool
+    ensures { result ≡ is_alone outcome.now deed.now }
+{
+    match outcome {
+        None => is_calls_alone(deed),
+        Some(_) => false,
     }
 }
 

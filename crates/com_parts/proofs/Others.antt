@@ -1,13 +1,15 @@
 -- An entry that neither issues a call nor leaves a body, and one that does.
-use Rattle.std.proofs.Common.{◌≡◌, ℕ, None, is_some, List, refl}
+use Rattle.std.proofs.Common.{◌≡◌, ℕ, Bool, true, false, None, is_some, List, refl}
 use Rattle.com_calls.specs.Steps.{is_known}
 use Rattle.com_model.specs.declared.deeds.Deed.{Deed}
 use Rattle.com_model.specs.declared.deeds.Deed.TheVariants as deed
 use Rattle.com_model.specs.Calls.{issues, leaves}
-use Rattle.com_model.specs.State.{grown}
+use Rattle.com_model.specs.Frames.{Actor}
+use Rattle.com_model.specs.State.{SceneTables, grown}
 use Rattle.com_model.specs.Waiting.{post_effect}
-use Rattle.com_state.specs.Parts.{CallTables}
-use Rattle.com_parts.specs.Fits.{IsCalled, IsOther}
+use Rattle.com_state.specs.Parts.{CallTables, LaneTables, ObjectTables, lanes_after, objects_after}
+use Rattle.com_state.specs.SceneParts.{rows_after}
+use Rattle.com_parts.specs.Fits.{IsCalled, IsOther, is_calls_alone}
 
 pub no_out : (l : ℕ) (d : Deed) → IsOther d → issues l d ≡ None
 no_out l (deed.Out c o i m r k bytes) h = absurd h
@@ -24,3 +26,37 @@ known t _ h e = e
 pub no_more : (l a : ℕ) (d : Deed) (xs : List ℕ) → IsOther d → grown (is_some (issues l d)) a xs ≡ xs
 no_more l a (deed.Out c o i m r k bytes) xs h = absurd h
 no_more l a _ xs h = refl
+
+-- ---- an entry that changes nothing but the calls
+
+clash : false ≡ true → ⊥
+clash e = cc
+
+pub alone_other : (d : Deed) → is_calls_alone d ≡ true → IsOther d
+alone_other (deed.Out c o i m r k bytes) h = absurd (clash h)
+alone_other (deed.Leave c hr v bytes) h = absurd (clash h)
+alone_other _ h = tt
+
+pub lanes_same : (t : LaneTables) (l : ℕ) (d : Deed) → is_calls_alone d ≡ true → lanes_after t (record { lane = l; deed = d }) ≡ t
+lanes_same t l (deed.Verdict c x v) h = refl
+lanes_same t l (deed.Refuse c hr) h = refl
+lanes_same t l (deed.Retry c n) h = refl
+lanes_same t l (deed.Again c) h = refl
+lanes_same t l (deed.Tick x) h = refl
+lanes_same t l _ h = absurd (clash h)
+
+pub objects_same : (t : ObjectTables) (l : ℕ) (d : Deed) → is_calls_alone d ≡ true → objects_after t (record { lane = l; deed = d }) ≡ t
+objects_same t l (deed.Verdict c x v) h = refl
+objects_same t l (deed.Refuse c hr) h = refl
+objects_same t l (deed.Retry c n) h = refl
+objects_same t l (deed.Again c) h = refl
+objects_same t l (deed.Tick x) h = refl
+objects_same t l _ h = absurd (clash h)
+
+pub rows_same : (named : ℕ → ℕ) (a b : Actor) (l : ℕ) (d : Deed) (t : SceneTables) → is_calls_alone d ≡ true → rows_after named a None b (record { lane = l; deed = d }) t ≡ t
+rows_same named a b l (deed.Verdict c x v) t h = refl
+rows_same named a b l (deed.Refuse c hr) t h = refl
+rows_same named a b l (deed.Retry c n) t h = refl
+rows_same named a b l (deed.Again c) t h = refl
+rows_same named a b l (deed.Tick x) t h = refl
+rows_same named a b l _ t h = absurd (clash h)

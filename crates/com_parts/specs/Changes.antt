@@ -6,7 +6,7 @@ use Rattle.com_model.specs.Frames.{Actor as Acting}
 use Rattle.com_model.specs.Openers.{running_call}
 use Rattle.com_scene.specs.Kept.{FitsActor}
 use Rattle.com_state.specs.Parts.{LaneTables, Issuing, Moment, openers_at}
-use Rattle.com_parts.specs.declared.change.Sent.{Sent}
+use Rattle.com_parts.specs.Fits.{Sent}
 use Rattle.com_parts.specs.Tables.{PartTables}
 
 -- What the entry finds of other parts: a call draws a causality where its lane runs no body.

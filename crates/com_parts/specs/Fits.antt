@@ -1,7 +1,9 @@
 -- What the parts ask of an entry. Each entry that the rules give is so.
-use Rattle.std.specs.Prelude.{◌≡◌, ℕ, ◌+◌, ◌≤◌, ◌<◌, ◌^◌, Option, Some, None, length, slice_index_or}
+use Rattle.std.specs.Prelude.{◌≡◌, ℕ, ◌+◌, ◌≤◌, ◌<◌, ◌^◌, Bool, true, false, List, Option, Some, None, length, slice_index_or}
+use Rattle.com_base.specs.declared.hresult.HResult.{HResult}
 use Rattle.com_base.specs.declared.value.Value.{Value}
 use Rattle.com_body.specs.declared.frame.Outcome.{Outcome}
+use Rattle.com_calls.specs.declared.rows.Issued.{Issued}
 use Rattle.com_calls.specs.Kept.{Kept}
 use Rattle.com_calls.specs.Steps.{is_known, delay_of}
 use Rattle.com_lanes.specs.Changes.{NamesStas}
@@ -14,7 +16,6 @@ use Rattle.com_model.specs.Waiting.{post_effect}
 use Rattle.com_objects.specs.Kept.{IsMade}
 use Rattle.com_scene.specs.Ranges.{FitsDeed, WritesInRange}
 use Rattle.com_state.specs.Parts.{LaneTables, ObjectTables, CallTables}
-use Rattle.com_parts.specs.declared.change.Sent.{Sent}
 
 -- An Uninit leaves no more initialisations than there are.
 abbrev pub IsBack : HomeEffect → (count : ℕ) → Type 0
@@ -40,6 +41,16 @@ IsOther (deed.Out c o i m r k bytes) = ⊥
 IsOther (deed.Leave c hr v bytes) = ⊥
 IsOther _ = Unit {0}
 
+-- An entry that changes nothing but the calls, where nobody's step makes it: a filter's verdict and what follows
+-- it, a call that is refused, and what the clock does.
+abbrev pub is_calls_alone : Deed → Bool
+is_calls_alone (deed.Verdict c t v) = true
+is_calls_alone (deed.Refuse c hr) = true
+is_calls_alone (deed.Retry c n) = true
+is_calls_alone (deed.Again c) = true
+is_calls_alone (deed.Tick t) = true
+is_calls_alone _ = false
+
 -- The action of a step writes to registers, slots and links that there are.
 abbrev pub IsWriting : Option Outcome → Type 0
 IsWriting None = Unit {0}
@@ -61,6 +72,15 @@ pub record Fits (l : LaneTables) (o : ObjectTables) (b : Kept) (lane : ℕ) (d :
 abbrev pub HasPlace : Deed → (apartment : ℕ) → Kept → Type 0
 HasPlace (deed.Out c o i m r k bytes) a b = (length b.tables.issues < b.room) × (a < b.inboxes)
 HasPlace _ a b = Unit {0}
+
+-- What a call has at its Out entry: the refusal, or S_OK, and the values that it sends.
+pub record Sent : Type 0 where
+  pub refusal : HResult
+  pub values : List Value
+
+abbrev pub sent_by : Option Issued → Option Sent
+sent_by None = None
+sent_by (Some x) = Some (record { refusal = x.refusal; values = x.values })
 
 -- An Out comes with what it issues.
 abbrev pub HasIssued : Deed → Option Sent → Type 0

@@ -1,5 +1,5 @@
 pub mod Tables
 pub mod Whole
-pub mod Changes
 pub mod Fits
+pub mod Changes
 pub mod Begins

@@ -1,53 +1,52 @@
 //! What an entry makes of the parts.
-ghost use Rattle.std.specs.Prelude.{◌≡◌, ◌+◌, ◌<◌, ◌^◌, length, is_none, IfOk, OnOk};
+ghost use Rattle.std.specs.Prelude.{◌≡◌, ◌+◌, ◌<◌, ◌^◌, length, OnOk, true};
 ghost use Rattle.com_calls.specs.Kept.{with_room};
 ghost use Rattle.com_lanes.specs.Changes.{NamesStas, HasRoom};
 ghost use Rattle.com_lanes.specs.Rooms.{HasSpace};
 ghost use Rattle.com_model.specs.Calls.{issues, object_of};
 ghost use Rattle.com_model.specs.Objects.{finals};
-ghost use Rattle.com_model.specs.Openers.{running_call};
 ghost use Rattle.com_objects.specs.Kept.{IsMade};
 ghost use Rattle.com_objects.specs.Rooms.{HasRowFor};
 ghost use Rattle.com_scene.specs.Actors.{acting_of};
-ghost use Rattle.com_state.specs.Parts.{lanes_after, objects_after, calls_after, named_at, openers_at};
+ghost use Rattle.com_state.specs.Parts.{Issuing, lanes_after, objects_after, calls_after, named_at};
 ghost use Rattle.com_state.specs.SceneParts.{rows_after};
 ghost use Rattle.com_parts.specs.Begins.{IsBegun};
 ghost use Rattle.com_parts.specs.Changes.{FitsFrame, IsSame, issuing_of, moment_at};
-ghost use Rattle.com_parts.specs.Fits.{Fits, HasIssued, HasPlace, IsWriting};
+ghost use Rattle.com_parts.specs.Fits.{Fits, HasIssued, HasPlace, IsWriting, is_calls_alone, sent_by};
 
-use crate::change::{Begun, Calling, Change};
-use crate::issue::{change_calls, left_value, make_room, target_of};
-use crate::owners::owners_for;
+use crate::change::Change;
+use crate::issue::{change_calls, change_others, make_room, take_left, target_of};
+use crate::owners::keep_owners;
 use crate::parts::{MOST_ENTRIES, Parts};
 use com_base::Memory;
 use com_body::Outcome;
-use com_calls::Calls;
+use com_calls::{Calls, Issued};
 use com_lanes::Lanes;
 use com_model::Deed;
 use com_objects::Objects;
 use com_scene::ActedEntry;
 
-// Makes room for all rows that an entry brings, where a call that it issues goes to an object of this
-// apartment. The only error is want of memory.
+// Makes room for all rows that an entry brings. The only error is want of memory.
 fn reserve(
     lanes: &mut Lanes,
     objects: &mut Objects,
     calls: &mut Calls,
     lane: u32,
     deed: &Deed,
-    apartment: u32,
 ) -> Result<(), Memory>
     requires calls { length calls.old.tables.issues + 1 < 2 ^ 32 }
-    requires apartment { apartment + 1 < 2 ^ 32 }
+    requires target { named_at objects.old.tables (object_of (issues lane deed.now)) + 1 < 2 ^ 32 }
     ensures lanes { lanes.new.tables ≡ lanes.old.tables }
     ensures objects { objects.new.tables ≡ objects.old.tables }
     ensures calls { calls.new ≡ with_room calls.old calls.new.room calls.new.inboxes }
     ensures space { OnOk result (HasSpace lanes.new lane deed.now) }
     ensures row { OnOk result (HasRowFor objects.new deed.now) }
-    ensures place { OnOk result (HasPlace deed.now apartment calls.new) }
+    ensures place { OnOk result
+        (HasPlace deed.now (named_at objects.old.tables (object_of (issues lane deed.now))) calls.new) }
 {
     lanes.reserve(lane, deed)?;
     objects.reserve(deed)?;
+    let apartment = target_of(objects, deed);
     make_room(calls, deed, apartment)
 }
 
@@ -71,13 +70,6 @@ fn change_rows(lanes: &mut Lanes, objects: &mut Objects, lane: u32, deed: &Deed)
     }
 }
 
-// Whether a lane runs no body.
-fn is_outermost(lanes: &Lanes, lane: u32) -> bool
-    ensures { result ≡ is_none (running_call (openers_at lanes.now.tables lane)) }
-{
-    lanes.running_call(lane).is_none()
-}
-
 #[tactic(auto, using(crate::proofs::Starts::whole_kept, crate::proofs::Counts::has_room))]
 impl Parts {
     // The calls have an apartment each.
@@ -89,81 +81,98 @@ impl Parts {
 
     /// Begins a change by an entry that the parts take: takes all memory that the entry needs. The only error
     /// is want of memory. Whatever is answered, the parts stay as they are, but for room.
-    pub fn begin(&mut self, change: Change<'_>) -> Result<Begun, Memory>
-        requires fits { Fits self.old.lanes self.old.objects self.old.calls change.lane change.deed.now
-            change.clock }
-        requires issued { HasIssued change.deed.now change.issued }
-        requires target { named_at self.old.objects (object_of (issues change.lane change.deed.now)) + 1
-            < 2 ^ 32 }
+    pub fn begin(&mut self, change: &Change<'_>) -> Result<(), Memory>
+        requires fits { Fits self.old.lanes self.old.objects self.old.calls change.now.entry.lane
+            change.now.entry.deed.now change.now.clock }
+        requires target { named_at self.old.objects
+            (object_of (issues change.now.entry.lane change.now.entry.deed.now)) + 1 < 2 ^ 32 }
         requires few { self.old.entries < MOST_ENTRIES }
         ensures same { IsSame self.old self.new }
         ensures scene { self.new.scene ≡ self.old.scene }
-        ensures begun { IfOk result (λ begun. IsBegun self.new (acting_of change.entry.acting)
-            (acting_of change.entry.after) change.entry.lane change.entry.deed.now begun) }
-        ensures issued { IfOk result (λ begun. begun.calling.issued ≡ change.entry.issued) }
-        ensures has_filter { IfOk result (λ begun. begun.calling.has_filter ≡ change.entry.has_filter) }
-        ensures clock { IfOk result (λ begun. begun.calling.clock ≡ change.entry.clock) }
+        ensures begun { OnOk result (IsBegun self.new (acting_of change.now.entry.acting)
+            (acting_of change.now.entry.after) change.now.entry.lane change.now.entry.deed.now change.now.clock) }
     {
         self.homes();
-        let Change {
+        let ActedEntry {
             lane,
             deed,
             acting,
             after,
-            has_filter,
-            clock,
-            issued,
-        } = change;
-        let owners = owners_for(self.alloc, &self.objects, deed)?;
-        let value = left_value(deed)?;
-        let apartment = target_of(&self.objects, deed);
+        } = change.entry;
+        keep_owners(&self.objects, deed, &mut self.owners)?;
+        take_left(deed, &mut self.left)?;
         reserve(
             &mut self.lanes,
             &mut self.objects,
             &mut self.calls,
             lane,
             deed,
-            apartment,
         )?;
-        self.scene.prepare(acting, after, deed)?;
-        let calling = Calling {
-            issued,
-            apartment,
-            value,
-            is_outermost: is_outermost(&self.lanes, lane),
-            has_filter,
-            clock,
-        };
-        Ok(Begun { calling, owners })
+        self.scene.prepare(acting, after, deed)
     }
 
-    /// Finishes a change that was begun by the entry: the lanes, the objects, the calls and the scene after
-    /// it. It takes no memory, and cannot fail. Who acts before the entry and after it is who it was begun
-    /// with, and `outcome` has the step of whoever makes the entry by one; what is left of the step has no use
-    /// any more.
-    pub fn finish(&mut self, entry: &ActedEntry<'_>, outcome: &mut Option<Outcome>, begun: Begun)
-        requires frame { FitsFrame (acting_of entry.now.acting) outcome.old }
+    /// Finishes a change that was begun: the lanes, the objects, the calls and the scene after the entry. It
+    /// takes no memory, and cannot fail. `outcome` has the step of whoever makes the entry by one, and `issued`
+    /// what the call has that the entry issues, where it is an Out; what is left of both has no use any more.
+    pub fn finish(
+        &mut self,
+        change: &Change<'_>,
+        outcome: &mut Option<Outcome>,
+        issued: &mut Option<Issued>,
+    )
+        requires frame { FitsFrame (acting_of change.now.entry.acting) outcome.old }
         requires writes { IsWriting outcome.old }
-        requires begun { IsBegun self.old (acting_of entry.now.acting) (acting_of entry.now.after) entry.now.lane
-            entry.now.deed.now begun }
-        ensures lanes { self.new.lanes
-            ≡ lanes_after self.old.lanes (record { lane = entry.now.lane; deed = entry.now.deed.now }) }
-        ensures objects { self.new.objects
-            ≡ objects_after self.old.objects (record { lane = entry.now.lane; deed = entry.now.deed.now }) }
+        requires issued { HasIssued change.now.entry.deed.now (sent_by issued.old) }
+        requires begun { IsBegun self.old (acting_of change.now.entry.acting) (acting_of change.now.entry.after)
+            change.now.entry.lane change.now.entry.deed.now change.now.clock }
+        ensures lanes { self.new.lanes ≡ lanes_after self.old.lanes
+            (record { lane = change.now.entry.lane; deed = change.now.entry.deed.now }) }
+        ensures objects { self.new.objects ≡ objects_after self.old.objects
+            (record { lane = change.now.entry.lane; deed = change.now.entry.deed.now }) }
         ensures calls { self.new.calls.tables ≡ calls_after self.old.objects
-            (moment_at self.old.lanes entry.now.lane begun.calling.has_filter begun.calling.clock)
-            (issuing_of begun.calling.issued) self.old.calls.tables
-            (record { lane = entry.now.lane; deed = entry.now.deed.now }) }
-        ensures scene { self.new.scene ≡ rows_after (named_at self.old.objects) (acting_of entry.now.acting)
-            outcome.old (acting_of entry.now.after) (record { lane = entry.now.lane; deed = entry.now.deed.now })
-            self.old.scene }
+            (moment_at self.old.lanes change.now.entry.lane change.now.has_filter change.now.clock)
+            (issuing_of (sent_by issued.old)) self.old.calls.tables
+            (record { lane = change.now.entry.lane; deed = change.now.entry.deed.now }) }
+        ensures scene { self.new.scene ≡ rows_after (named_at self.old.objects)
+            (acting_of change.now.entry.acting) outcome.old (acting_of change.now.entry.after)
+            (record { lane = change.now.entry.lane; deed = change.now.entry.deed.now }) self.old.scene }
         ensures entries { self.new.entries ≡ self.old.entries + 1 }
     {
-        let Begun { calling, owners } = begun;
-        let ActedEntry { lane, deed, .. } = *entry;
-        self.scene.apply(entry, outcome, owners.as_slice());
-        change_rows(&mut self.lanes, &mut self.objects, lane, deed);
-        change_calls(&mut self.calls, lane, deed, calling);
+        change_calls(
+            &mut self.calls,
+            &self.lanes,
+            &self.objects,
+            change,
+            issued,
+            &mut self.left,
+        );
+        self.scene
+            .apply(&change.entry, outcome, self.owners.as_slice());
+        change_rows(
+            &mut self.lanes,
+            &mut self.objects,
+            change.entry.lane,
+            change.entry.deed,
+        );
+        self.entries += 1;
+    }
+
+    /// Makes of the parts what an entry makes of them that changes nothing but the calls, and that nobody's step
+    /// makes. It takes no memory, and cannot fail.
+    pub fn apply_alone(&mut self, lane: u32, deed: &Deed, has_filter: bool, clock: u64)
+        requires alone { is_calls_alone deed.now ≡ true }
+        requires fits { Fits self.old.lanes self.old.objects self.old.calls lane deed.now clock }
+        requires few { self.old.entries < MOST_ENTRIES }
+        ensures lanes { self.new.lanes ≡ self.old.lanes }
+        ensures objects { self.new.objects ≡ self.old.objects }
+        ensures calls { (i : Issuing) → self.new.calls.tables ≡ calls_after self.old.objects
+            (moment_at self.old.lanes lane has_filter clock) i self.old.calls.tables
+            (record { lane = lane; deed = deed.now }) }
+        ensures scene { self.new.scene ≡ self.old.scene }
+        ensures entries { self.new.entries ≡ self.old.entries + 1 }
+    {
+        self.homes();
+        change_others(&mut self.calls, lane, deed, has_filter, clock);
         self.entries += 1;
     }
 }

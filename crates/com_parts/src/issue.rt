@@ -1,17 +1,20 @@
 //! What the calls make of an entry.
-ghost use Rattle.std.specs.Prelude.{◌≡◌, ◌+◌, ◌<◌, ◌^◌, ℕ, Bool, List, Option, IsSome, is_some};
-ghost use Rattle.std.specs.Prelude.{IfOk, OnOk, length};
+ghost use Rattle.std.specs.Prelude.{◌≡◌, ◌+◌, ◌<◌, ◌^◌, ℕ, Bool, List, Option, IsSome, is_some, is_none};
+ghost use Rattle.std.specs.Prelude.{OnOk, length};
 ghost use Rattle.com_calls.specs.Kept.{IsNamed, with_call, with_room, with_tables};
 ghost use Rattle.com_calls.specs.Steps.{delay_of, out_entry};
 ghost use Rattle.com_model.specs.Calls.{issues, object_of};
+ghost use Rattle.com_model.specs.Openers.{running_call};
 ghost use Rattle.com_model.specs.State.{grown};
-ghost use Rattle.com_state.specs.Parts.{Issuing, ObjectTables, calls_after, named_at};
-ghost use Rattle.com_parts.specs.Changes.{issuing_of};
-ghost use Rattle.com_parts.specs.Fits.{HasIssued, HasPlace, IsCalled, IsOther, left_in};
+ghost use Rattle.com_state.specs.Parts.{Issuing, ObjectTables, calls_after, named_at, openers_at};
+ghost use Rattle.com_scene.specs.Prepared.{IsTaken};
+ghost use Rattle.com_parts.specs.Changes.{issuing_of, moment_at};
+ghost use Rattle.com_parts.specs.Fits.{HasIssued, HasPlace, IsCalled, IsOther, is_calls_alone, left_in, sent_by};
 
-use crate::change::{Calling, Sent};
+use crate::change::Change;
 use com_base::{Memory, Value};
 use com_calls::{Calls, Issued};
+use com_lanes::Lanes;
 use com_model::{Deed, Issue};
 use com_objects::Objects;
 
@@ -39,33 +42,65 @@ pub(crate) fn make_room(calls: &mut Calls, deed: &Deed, apartment: u32) -> Resul
     }
 }
 
-// A copy of the value of a Leave. The only error is want of memory.
-pub(crate) fn left_value(deed: &Deed) -> Result<Option<Value>, Memory>
-    ensures { IfOk result (λ value. value ≡ left_in deed.now) }
+// Takes a copy of the value of a Leave. The only error is want of memory.
+pub(crate) fn take_left(deed: &Deed, left: &mut Option<Value>) -> Result<(), Memory>
+    ensures { OnOk result (IsTaken (left_in deed.now) left.new) }
 {
     match deed {
         Deed::Leave {
             value: Some(value),
             ..
-        } => Ok(Some(value.copy()?)),
-        _ => Ok(None),
+        } => {
+            *left = Some(value.copy()?);
+            Ok(())
+        }
+        _ => Ok(()),
     }
 }
 
-// The calls after an entry.
-pub(crate) fn change_calls(calls: &mut Calls, lane: u32, deed: &Deed, calling: Calling)
-    requires place { HasPlace deed.now calling.apartment calls.old }
-    requires has { HasIssued deed.now calling.issued }
-    requires value { calling.value ≡ left_in deed.now }
-    requires called { IsCalled calls.old.tables deed.now }
-    requires time { calling.clock + delay_of deed.now < 2 ^ 64 }
-    ensures tables { (o : ObjectTables) → IsNamed o calls.old → calls.new.tables ≡ calls_after o
-        (record { is_outermost = calling.is_outermost; filtered = calling.has_filter; clock = calling.clock })
-        (issuing_of calling.issued) calls.old.tables (record { lane = lane; deed = deed.now }) }
-    ensures apartments { (o : ObjectTables) → IsNamed o calls.old → calls.new.apartments
-        ≡ grown (is_some (issues lane deed.now)) calling.apartment calls.old.apartments }
+// The copy that was taken of a value, where there is one.
+fn own(value: &Option<Value>, taken: &mut Option<Value>) -> Option<Value>
+    requires { IsTaken value.now taken.old }
+    ensures { result ≡ value.now }
 {
-    match deed {
+    match value {
+        Some(_) => taken.take(),
+        None => None,
+    }
+}
+
+// Whether a lane runs no body.
+fn is_outermost(lanes: &Lanes, lane: u32) -> bool
+    ensures { result ≡ is_none (running_call (openers_at lanes.now.tables lane)) }
+{
+    lanes.running_call(lane).is_none()
+}
+
+// The calls after an entry, whose lanes and objects are those before it.
+pub(crate) fn change_calls(
+    calls: &mut Calls,
+    lanes: &Lanes,
+    objects: &Objects,
+    change: &Change<'_>,
+    issued: &mut Option<Issued>,
+    left: &mut Option<Value>,
+)
+    requires place { HasPlace change.now.entry.deed.now (named_at objects.now.tables
+        (object_of (issues change.now.entry.lane change.now.entry.deed.now))) calls.old }
+    requires has { HasIssued change.now.entry.deed.now (sent_by issued.old) }
+    requires value { IsTaken (left_in change.now.entry.deed.now) left.old }
+    requires called { IsCalled calls.old.tables change.now.entry.deed.now }
+    requires time { change.now.clock + delay_of change.now.entry.deed.now < 2 ^ 64 }
+    ensures tables { IsNamed objects.now.tables calls.old → calls.new.tables ≡ calls_after objects.now.tables
+        (moment_at lanes.now.tables change.now.entry.lane change.now.has_filter change.now.clock)
+        (issuing_of (sent_by issued.old)) calls.old.tables
+        (record { lane = change.now.entry.lane; deed = change.now.entry.deed.now }) }
+    ensures apartments { IsNamed objects.now.tables calls.old → calls.new.apartments
+        ≡ grown (is_some (issues change.now.entry.lane change.now.entry.deed.now)) (named_at objects.now.tables
+        (object_of (issues change.now.entry.lane change.now.entry.deed.now))) calls.old.apartments }
+{
+    let lane = change.entry.lane;
+    match change.entry.deed {
         Deed::Out {
             call,
             object,
@@ -85,16 +120,50 @@ pub(crate) fn change_calls(calls: &mut Calls, lane: u32, deed: &Deed, calling: C
                 route: *route,
                 cause: *cause,
             };
-            add(calls, issue, calling);
+            let apartment = target_of(objects, change.entry.deed);
+            add(
+                calls,
+                issue,
+                issued,
+                apartment,
+                is_outermost(lanes, lane),
+                change.clock,
+            );
         }
-        Deed::Leave { call, hr, .. } => calls.leave(*call, *hr, calling.value),
-        _ => change_others(calls, lane, deed, calling.has_filter, calling.clock),
+        Deed::Leave {
+            call,
+            hr,
+            value,
+            ..
+        } => calls.leave(*call, *hr, own(value, left)),
+        _ => change_others(
+            calls,
+            lane,
+            change.entry.deed,
+            change.has_filter,
+            change.clock,
+        ),
+    }
+}
+
+/// Whether an entry of this deed changes nothing but the calls, where nobody's step makes it: a filter's verdict and
+/// what follows it, a call that is refused, and what the clock does.
+pub fn is_calls_alone(deed: &Deed) -> bool
+    ensures { result ≡ is_calls_alone deed.now }
+{
+    match deed {
+        Deed::Verdict { .. } => true,
+        Deed::Refuse { .. } => true,
+        Deed::Retry { .. } => true,
+        Deed::Again { .. } => true,
+        Deed::Tick { .. } => true,
+        _ => false,
     }
 }
 
 // The calls after an entry that neither issues a call nor leaves a body.
 #[tactic(auto, using(crate::proofs::Others::no_out, crate::proofs::Others::no_leave, crate::proofs::Others::known))]
-fn change_others(calls: &mut Calls, lane: u32, deed: &Deed, has_filter: bool, clock: u64)
+pub(crate) fn change_others(calls: &mut Calls, lane: u32, deed: &Deed, has_filter: bool, clock: u64)
     requires other { IsOther deed.now }
     requires called { IsCalled calls.old.tables deed.now }
     requires time { clock + delay_of deed.now < 2 ^ 64 }
@@ -109,27 +178,31 @@ fn change_others(calls: &mut Calls, lane: u32, deed: &Deed, has_filter: bool, cl
 }
 
 // The calls after an Out.
-fn add(calls: &mut Calls, issue: Issue, calling: Calling)
+fn add(
+    calls: &mut Calls,
+    issue: Issue,
+    issued: &mut Option<Issued>,
+    apartment: u32,
+    is_outermost: bool,
+    clock: u64,
+)
     requires number { issue.call ≡ length calls.old.tables.issues + 1 }
     requires room { length calls.old.tables.issues < calls.old.room }
-    requires inbox { calling.apartment < calls.old.inboxes }
-    requires has { IsSome calling.issued }
-    ensures { (o : ObjectTables) (bytes : Option (List ℕ)) → calls.new
-        ≡ with_call calls.old calling.apartment (calls_after o
-        (record { is_outermost = calling.is_outermost; filtered = calling.has_filter; clock = calling.clock })
-        (issuing_of calling.issued) calls.old.tables (out_entry issue bytes)) }
+    requires inbox { apartment < calls.old.inboxes }
+    requires has { IsSome issued.old }
+    ensures { (o : ObjectTables) (filtered : Bool) (bytes : Option (List ℕ)) → calls.new
+        ≡ with_call calls.old apartment (calls_after o
+        (record { is_outermost = is_outermost; filtered = filtered; clock = clock })
+        (issuing_of (sent_by issued.old)) calls.old.tables (out_entry issue bytes)) }
 {
-    let Calling {
-        issued,
-        apartment,
-        is_outermost,
-        clock,
-        ..
-    } = calling;
-    let Some(sent) = issued else {
+    let Some(sent) = issued.take() else {
         return;
     };
-    let Sent { refusal, values } = sent;
+    let Issued {
+        refusal,
+        values,
+        ..
+    } = sent;
     let issued = Issued {
         refusal,
         values,

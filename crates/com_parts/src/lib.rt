@@ -11,5 +11,6 @@ mod issue;
 mod owners;
 mod parts;
 
-pub use change::{Begun, Calling, Change, Sent};
+pub use change::Change;
+pub use issue::is_calls_alone;
 pub use parts::{MOST_ENTRIES, Parts};

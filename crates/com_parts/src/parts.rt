@@ -5,7 +5,7 @@ ghost use Rattle.com_lanes.specs.First.{first_lanes};
 ghost use Rattle.com_model.specs.Tables.{lanes as all_lanes, threads};
 ghost use Rattle.com_scene.specs.Scenes.{new_scene};
 
-use com_base::Memory;
+use com_base::{Memory, Value};
 use com_calls::Calls;
 use com_lanes::Lanes;
 use com_model::Scenario;
@@ -26,7 +26,11 @@ pub struct Parts {
     pub(crate) calls: Calls,
     pub(crate) scene: Scene,
     pub(crate) entries: u32,
-    pub(crate) alloc: Global,
+    // What was taken for the entry that comes. Each stays where it is until an entry takes anew, and an entry uses
+    // only what it has taken itself: a copy of the value of a Leave, and the apartment of each object, from 0,
+    // where the entry ends a single-threaded apartment.
+    pub(crate) left: Option<Value>,
+    pub(crate) owners: Vec<u32>,
 }
 
 impl Model for Parts {
@@ -41,7 +45,7 @@ impl Model for Parts {
       calls = p.calls;
       scene = p.scene.tables;
       entries = p.entries;
-      rooms = rooms_of p.lanes p.objects p.scene;
+      rooms = rooms_of p.lanes p.objects p.scene p.left p.owners.items;
     } };
 
     ghost invariant = { λ p. IsWhole p.lanes.tables p.objects.tables p.calls p.entries };
@@ -66,7 +70,8 @@ impl Parts {
             calls: Calls::new(alloc)?,
             scene: Scene::new(alloc, threads)?,
             entries: 0,
-            alloc,
+            left: None,
+            owners: Vec::new(alloc),
         })
     }
 

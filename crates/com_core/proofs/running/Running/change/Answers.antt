@@ -16,7 +16,8 @@ use Rattle.com_scene.specs.Kept.{HasSlots}
 use Rattle.com_refs_rows.specs.Books.{Held}
 use Rattle.com_refs_rows.specs.Entries.{AllGiven, Around, around, most_left, tally}
 use Rattle.com_refs_rows.specs.Fits.{FitsBooks}
-use Rattle.com_core.specs.Changes.{Becomes, Settles, sent_by}
+use Rattle.com_parts.specs.Fits.{sent_by}
+use Rattle.com_core.specs.Changes.{Becomes, Settles}
 use Rattle.com_core.specs.Making.{Booked}
 use Rattle.com_core.specs.Shown.{parts_shown}
 use Rattle.com_core.proofs.Made.{becomes_finished}
@@ -37,15 +38,13 @@ finish_parts-requires-clause-deed c = c.requires.takes.fits.deed
 pub finish_parts-requires-clause-writes : goal.finish_parts-requires-clause-writes
 finish_parts-requires-clause-writes c = c.requires.takes.writes
 
-pub begin_parts-requires-clause-sent : goal.begin_parts-requires-clause-sent
-begin_parts-requires-clause-sent c = c.requires.takes.sent
+pub finish_parts-requires-clause-sent : goal.finish_parts-requires-clause-sent
+finish_parts-requires-clause-sent c = c.requires.takes.sent
 
 pub begin_parts-requires-clause-fits : goal.begin_parts-requires-clause-fits
 begin_parts-requires-clause-fits c =
-    let v = c.args.self.now in
     let e = c.args.entry.now in
-    subst (λ (p : PartTables). Fits p.lanes p.objects p.calls e.lane e.deed c.prepare.new.self.clock) (sym c.prepare.ensures.parts)
-    (subst (λ (k : ℕ). Fits v.parts.lanes v.parts.objects v.parts.calls e.lane e.deed k) (sym c.prepare.ensures.clock) c.requires.takes.fits)
+    subst (λ (p : PartTables). Fits p.lanes p.objects p.calls e.lane e.deed c.args.self.now.clock) (sym c.prepare.ensures.parts) c.requires.takes.fits
 
 pub begin_parts-requires-clause-target : goal.begin_parts-requires-clause-target
 begin_parts-requires-clause-target c =
@@ -67,13 +66,11 @@ pub returns-clause-becomes : goal.returns-clause-becomes
 returns-clause-becomes c =
     let a = c.args in
     let v = a.self.now in
-    let b = c.in_ok-begun in
     let same : parts_shown c.book.new.self.parts ≡ parts_shown v.parts = ap parts_shown c.book.ensures.parts ∙ c.begin_parts.ensures.same ∙ ap parts_shown c.prepare.ensures.parts in
-    let made : Becomes v.parts c.finish_parts.new.self.parts a.entry.now (acting_of a.acting) a.outcome.now (acting_of a.basis.after) a.basis.has_filter (sent_by a.issued) v.clock =
+    let made : Becomes v.parts c.finish_parts.new.self.parts a.entry.now (acting_of a.acting) a.outcome.now (acting_of a.basis.after) a.basis.has_filter (sent_by a.issued.now) v.clock =
     becomes_finished v.parts c.book.new.self.parts c.finish_parts.new.self.parts a.entry.now (acting_of a.acting) a.outcome.now (acting_of a.basis.after)
-    a.basis.has_filter b.begun.calling.has_filter (sent_by a.issued) b.begun.calling.issued v.clock b.begun.calling.clock
-    same b.ensures.has_filter b.ensures.issued (b.ensures.time ∙ c.prepare.ensures.clock) c.finish_parts.ensures.becomes in
-    subst (λ (t : PartTables). Becomes v.parts t a.entry.now (acting_of a.acting) a.outcome.now (acting_of a.basis.after) a.basis.has_filter (sent_by a.issued) v.clock) (sym c.settle.ensures.parts) made
+    a.basis.has_filter (sent_by a.issued.now) v.clock same c.finish_parts.ensures.becomes in
+    subst (λ (t : PartTables). Becomes v.parts t a.entry.now (acting_of a.acting) a.outcome.now (acting_of a.basis.after) a.basis.has_filter (sent_by a.issued.now) v.clock) (sym c.settle.ensures.parts) made
 
 -- ---- the running bodies and the dying objects
 

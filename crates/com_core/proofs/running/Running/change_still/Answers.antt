@@ -13,7 +13,7 @@ use Rattle.com_refs_rows.specs.Entries.{Around, around}
 use Rattle.com_scene.specs.Actors.{acting_of}
 use Rattle.com_scene.specs.Kept.{HasSlots}
 use Rattle.com_parts.specs.Tables.{PartTables}
-use Rattle.com_core.specs.Changes.{sent_by}
+use Rattle.com_parts.specs.Fits.{sent_by}
 use Rattle.com_core.specs.Making.{Booked}
 use Rattle.com_core.specs.Quiet.{Still}
 use Rattle.com_core.proofs.Made.{becomes_finished}
@@ -25,8 +25,8 @@ use Rattle.com_core.proofs.running.Running.change_still.Goals as goal
 pub begin_parts-requires-clause-fits : goal.begin_parts-requires-clause-fits
 begin_parts-requires-clause-fits c = c.requires.takes.fits
 
-pub begin_parts-requires-clause-sent : goal.begin_parts-requires-clause-sent
-begin_parts-requires-clause-sent c = c.requires.takes.sent
+pub finish_parts-requires-clause-sent : goal.finish_parts-requires-clause-sent
+finish_parts-requires-clause-sent c = c.requires.takes.sent
 
 pub begin_parts-requires-clause-target : goal.begin_parts-requires-clause-target
 begin_parts-requires-clause-target c = c.requires.takes.target
@@ -47,10 +47,8 @@ pub returns-clause-becomes : goal.returns-clause-becomes
 returns-clause-becomes c =
     let a = c.args in
     let v = a.self.now in
-    let b = c.in_ok-begun in
     becomes_finished v.parts c.begin_parts.new.self.parts c.finish_parts.new.self.parts a.entry.now (acting_of a.acting) a.outcome.now (acting_of a.basis.after)
-    a.basis.has_filter b.begun.calling.has_filter (sent_by a.issued) b.begun.calling.issued v.clock b.begun.calling.clock
-    c.begin_parts.ensures.same b.ensures.has_filter b.ensures.issued b.ensures.time c.finish_parts.ensures.becomes
+    a.basis.has_filter (sent_by a.issued.now) v.clock c.begin_parts.ensures.same c.finish_parts.ensures.becomes
 
 -- ---- the running bodies and the dying objects
 

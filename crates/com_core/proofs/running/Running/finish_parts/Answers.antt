@@ -11,5 +11,6 @@ returns-clause-becomes c =
 pub returns-clause-bodies : goal.returns-clause-bodies
 returns-clause-bodies c =
     let a = c.args in
-    later_whole (named_at a.self.now.parts.objects) (acting_of a.acting) a.outcome.now (acting_of a.basis.after) a.entry.now a.self.now.parts.scene c.finish.new.self.scene
+    let x = a.change.now.entry in
+    later_whole (named_at a.self.now.parts.objects) (acting_of x.acting) a.outcome.now (acting_of x.after) (record { lane = x.lane; deed = x.deed.now }) a.self.now.parts.scene c.finish.new.self.scene
     c.finish.ensures.scene c.requires.whole c.requires.deed c.requires.bodies

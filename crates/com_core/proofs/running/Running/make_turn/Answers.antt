@@ -9,7 +9,7 @@ use Rattle.com_refs_rows.specs.Entries.{tally}
 use Rattle.com_refs_rows.specs.Fits.{FitsBooks}
 use Rattle.com_core.proofs.Booked.{turn_books, turn_brings}
 use Rattle.com_view.specs.Seen.{running_seen}
-use Rattle.com_core.specs.Changes.{sent_by}
+use Rattle.com_parts.specs.Fits.{sent_by}
 use Rattle.com_core.specs.Making.{Changed}
 use Rattle.com_core.specs.Stands.{seen_by, state_read}
 use Rattle.com_core.proofs.Turned.{turn_made, turn_taken}

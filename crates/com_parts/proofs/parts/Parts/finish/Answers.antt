@@ -1,9 +1,11 @@
-use Rattle.std.proofs.Common.{◌≡◌, ◌+◌, sym, ap, subst}
+use Rattle.std.proofs.Common.{◌≡◌, ◌+◌, refl, sym, ap, subst}
 use Rattle.com_model.specs.declared.deeds.Entry.{Entry}
+use Rattle.com_model.specs.Calls.{issues, object_of}
 use Rattle.com_scene.specs.Actors.{acting_of}
-use Rattle.com_state.specs.Parts.{CallTables, calls_after}
+use Rattle.com_state.specs.Parts.{CallTables, calls_after, named_at}
 use Rattle.com_parts.specs.Begins.{IsBegun}
 use Rattle.com_parts.specs.Changes.{issuing_of, moment_at}
+use Rattle.com_parts.specs.Fits.{sent_by}
 use Rattle.com_parts.specs.Tables.{PartTables}
 use Rattle.com_parts.proofs.Wholes.{whole_after, with_rest}
 use Rattle.com_parts.proofs.Starts.{parts_of}
@@ -11,22 +13,22 @@ use Rattle.com_parts.proofs.parts.Parts.finish.Goals as goal
 
 pub returns-clause-calls : goal.returns-clause-calls
 returns-clause-calls c =
-    let e : Entry = record { lane = c.args.entry.now.lane; deed = c.args.entry.now.deed.now } in
-    let x : CallTables = c.change_calls.new.calls.tables in
-    let begun : IsBegun (parts_of c.self.inside.lanes c.self.inside.objects c.self.inside.calls c.self.inside.scene c.self.inside.entries) (acting_of c.args.entry.now.acting) (acting_of c.args.entry.now.after) c.args.entry.now.lane c.args.entry.now.deed.now c.args.begun =
-    subst (λ (p : PartTables). IsBegun p (acting_of c.args.entry.now.acting) (acting_of c.args.entry.now.after) c.args.entry.now.lane c.args.entry.now.deed.now c.args.begun) (sym c.self.view_is) c.requires.begun in
-    subst (λ (p : PartTables). x ≡ calls_after p.objects (moment_at p.lanes c.args.entry.now.lane c.args.begun.calling.has_filter c.args.begun.calling.clock) (issuing_of c.args.begun.calling.issued) p.calls.tables e) c.self.view_is
-    (subst (λ (o : _). x ≡ calls_after c.self.inside.objects.tables (record { is_outermost = o; filtered = c.args.begun.calling.has_filter; clock = c.args.begun.calling.clock }) (issuing_of c.args.begun.calling.issued) c.self.inside.calls.tables e) begun.is_outermost
-    (c.change_calls.ensures.tables c.self.inside.objects.tables c.self.invariant.named))
+    let x = c.args.change.now in
+    let e : Entry = record { lane = x.entry.lane; deed = x.entry.deed.now } in
+    let t : CallTables = c.change_calls.new.calls.tables in
+    subst (λ (p : PartTables). t ≡ calls_after p.objects (moment_at p.lanes x.entry.lane x.has_filter x.clock) (issuing_of (sent_by c.args.issued.now)) p.calls.tables e) c.self.view_is
+    (c.change_calls.ensures.tables c.self.invariant.named)
 
 pub invariant_of-self : goal.invariant_of-self
 invariant_of-self c =
-    let e : Entry = record { lane = c.args.entry.now.lane; deed = c.args.entry.now.deed.now } in
-    let begun : IsBegun (parts_of c.self.inside.lanes c.self.inside.objects c.self.inside.calls c.self.inside.scene c.self.inside.entries) (acting_of c.args.entry.now.acting) (acting_of c.args.entry.now.after) c.args.entry.now.lane c.args.entry.now.deed.now c.args.begun =
-    subst (λ (p : PartTables). IsBegun p (acting_of c.args.entry.now.acting) (acting_of c.args.entry.now.after) c.args.entry.now.lane c.args.entry.now.deed.now c.args.begun) (sym c.self.view_is) c.requires.begun in
-    with_rest c.change_rows.new.lanes.tables c.change_rows.new.objects.tables c.change_calls.new.calls c.self.inside.lanes.tables c.self.inside.objects.tables e (c.self.inside.entries + 1)
+    let x = c.args.change.now in
+    let v = c.self.inside in
+    let e : Entry = record { lane = x.entry.lane; deed = x.entry.deed.now } in
+    let begun : IsBegun (parts_of v.lanes v.objects v.calls v.scene v.entries v.left v.owners.items) (acting_of x.entry.acting) (acting_of x.entry.after) x.entry.lane x.entry.deed.now x.clock =
+    subst (λ (p : PartTables). IsBegun p (acting_of x.entry.acting) (acting_of x.entry.after) x.entry.lane x.entry.deed.now x.clock) (sym c.self.view_is) c.requires.begun in
+    with_rest c.change_rows.new.lanes.tables c.change_rows.new.objects.tables c.change_calls.new.calls v.lanes.tables v.objects.tables e (v.entries + 1)
     c.change_rows.ensures.lanes c.change_rows.ensures.objects
-    (whole_after c.self.inside.lanes.tables c.self.inside.objects.tables c.self.inside.calls c.change_calls.new.calls c.self.inside.entries c.args.entry.now.lane c.args.begun.calling.apartment c.args.entry.now.deed.now
-    c.self.invariant begun.few begun.fits.back begun.fits.aimed begun.homes begun.apartment
-    (ap (λ (t : CallTables). t.issues) (c.change_calls.ensures.tables c.self.inside.objects.tables c.self.invariant.named))
-    (c.change_calls.ensures.apartments c.self.inside.objects.tables c.self.invariant.named))
+    (whole_after v.lanes.tables v.objects.tables v.calls c.change_calls.new.calls v.entries x.entry.lane (named_at v.objects.tables (object_of (issues x.entry.lane x.entry.deed.now))) x.entry.deed.now
+    c.self.invariant begun.few begun.fits.back begun.fits.aimed begun.homes refl
+    (ap (λ (t : CallTables). t.issues) (c.change_calls.ensures.tables c.self.invariant.named))
+    (c.change_calls.ensures.apartments c.self.invariant.named))
