@@ -75,7 +75,7 @@ impl Running {
         ensures next { OnOk result (TurnsTo scenario.now entry.now.lane self.old self.new entry.now) }
         ensures err { OnErr result (IsAsBefore self.old self.new) }
     {
-        self.make(scenario, Actor::Nobody, step, None, &[], entry)
+        self.make(scenario, Actor::Nobody, step, &mut None, &[], entry)
     }
 
     /// Tries a lane in which neither a body nor a script acts: makes its next entry, in the place of the entry

@@ -23,19 +23,19 @@ use std::process::ExitCode;
 // Does what the words behind the program's name ask for, and ends with the status of that. Want of
 // memory for the words, the pieces or the row of servants has a status of its own.
 fn main(rt: HostRuntime) -> ExitCode {
-    match status(&rt) {
-        Ok(status) => ExitCode::from(status),
+    let words = match words_of(&rt) {
+        Ok(words) => words,
+        Err(_) => return ExitCode::from(Status::Memory.code()),
+    };
+    let mut source = StdSource::new(rt.stdin());
+    let mut sink = match Pieces::new(rt.alloc(), StdSink::new(rt.stdout())) {
+        Ok(sink) => sink,
+        Err(_) => return ExitCode::from(Status::Memory.code()),
+    };
+    match serve(rt.alloc(), words.as_slice(), &mut source, &mut sink) {
+        Ok(status) => ExitCode::from(handed_on(&mut sink, status)),
         Err(_) => ExitCode::from(Status::Memory.code()),
     }
-}
-
-// Does what the words ask for. What is written is gathered in pieces. The only error is want of memory.
-fn status(rt: &HostRuntime) -> Result<u8, Memory> {
-    let words = words_of(rt)?;
-    let mut source = StdSource::new(rt.stdin());
-    let mut sink = Pieces::new(rt.alloc(), StdSink::new(rt.stdout()))?;
-    let status = serve(rt.alloc(), words.as_slice(), &mut source, &mut sink)?;
-    Ok(handed_on(&mut sink, status))
 }
 
 // The status once the last piece is handed on: that of a write fault where it could not be.

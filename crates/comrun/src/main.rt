@@ -27,19 +27,19 @@ use std::thread::Threads;
 // Does what the words ask for, on the standard input and output. The exit status is that of the
 // command, and that of want of memory where it lacks for the words, the pieces or the crew.
 fn main(rt: HostRuntime) -> ExitCode {
-    match status(&rt) {
-        Ok(status) => ExitCode::from(status),
+    let words = match words_of(&rt) {
+        Ok(words) => words,
+        Err(_) => return ExitCode::from(Status::Memory.code()),
+    };
+    let mut source = StdSource::new(rt.stdin());
+    let mut sink = match Pieces::new(rt.alloc(), StdSink::new(rt.stdout())) {
+        Ok(sink) => sink,
+        Err(_) => return ExitCode::from(Status::Memory.code()),
+    };
+    match serve(&rt, rt.alloc(), words.as_slice(), &mut source, &mut sink) {
+        Ok(status) => ExitCode::from(handed_on(&mut sink, status)),
         Err(_) => ExitCode::from(Status::Memory.code()),
     }
-}
-
-// Does what the words ask for. What is written is gathered in pieces. The only error is want of memory.
-fn status(rt: &HostRuntime) -> Result<u8, Memory> {
-    let words = words_of(rt)?;
-    let mut source = StdSource::new(rt.stdin());
-    let mut sink = Pieces::new(rt.alloc(), StdSink::new(rt.stdout()))?;
-    let status = serve(rt, rt.alloc(), words.as_slice(), &mut source, &mut sink)?;
-    Ok(handed_on(&mut sink, status))
 }
 
 // The status once the last piece is handed on: that of a write fault where it could not be.
