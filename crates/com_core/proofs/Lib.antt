@@ -7,6 +7,7 @@ pub mod Bringing
 pub mod Fits
 pub mod Booked
 pub mod Acting
+pub mod Travelling
 pub mod Roomy
 pub mod Entries
 pub mod Readings

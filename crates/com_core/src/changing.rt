@@ -145,9 +145,7 @@ impl Running {
         let most = self
             .ledger
             .most_left(&entry.deed, self.parts.objects(), &self.moves);
-        let Some(more) = most.checked_add(1) else {
-            return Err(Memory);
-        };
+        let more = most + 1;
         self.entered.reserve()?;
         self.fallen.reserve(more)?;
         self.fresh.clear();

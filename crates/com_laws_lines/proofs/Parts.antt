@@ -249,7 +249,7 @@ pub value-plain : (R : RefValue → Type 0) (v : Value) → ValueBy R v → Plai
 value-plain R (value.Int n) p = signed-plain n
 value-plain R (value.Bool true) p = spelled (codes "true") refl
 value-plain R (value.Bool false) p = spelled (codes "false") refl
-value-plain R (value.Text t) p = both (both (spelled (codes "\"") refl) (characters-plain t p)) (spelled (codes "\"") refl)
+value-plain R (value.Text t) p = both (both (spelled (codes "\"") refl) (characters-plain t p.0)) (spelled (codes "\"") refl)
 value-plain R (value.Bytes t) p = both (both (spelled (codes "x\"") refl) (hex-plain t)) (spelled (codes "\"") refl)
 value-plain R (value.Guid g) p = guid-plain g
 value-plain R (value.Ref None) p = spelled (codes "null") refl

@@ -39,6 +39,7 @@ use Rattle.com_model.proofs.Onces.{legal-once}
 use Rattle.com_laws_safety.proofs.Caused.{legal-own}
 use Rattle.com_laws_safety.proofs.Small.{same-number}
 use Rattle.com_laws_balance.proofs.Makings.{fine-next}
+use Rattle.com_laws_ranges.proofs.Holding.{rows-keep}
 use Rattle.com_laws_ranges.proofs.Numbers.{books-few, objects-few}
 use Rattle.com_laws_balance.proofs.Results.{ends-is, not-left, out-number, same-issue, NotLeft}
 use Rattle.com_laws_balance.proofs.Leavings.{or-some, no-leave-again}
@@ -52,8 +53,8 @@ use Rattle.com_laws_messages.proofs.Answering.{DeedCan}
 use Rattle.com_laws_messages.proofs.Carrying.{deed-can}
 use Rattle.com_laws_messages.proofs.Literals.{scenario-clean, iids-fit}
 use Rattle.com_laws_messages.proofs.Naming.{AllThere, all-named}
-use Rattle.com_laws_messages.proofs.Requests.{rows-keep, all-later, fields-back}
-use Rattle.com_laws_messages.proofs.Holding.{held-few}
+use Rattle.com_laws_messages.proofs.Requests.{all-later, fields-back}
+use Rattle.com_laws_messages.proofs.Fields.{held-few}
 use Rattle.com_laws_messages.proofs.Fitting.{RefsFit, fields-fit, refs-fit, named-fits}
 use Rattle.com_laws_messages.proofs.Calls.{few-packets, carried-so}
 use Rattle.com_laws_messages.proofs.Leaves.{LeaveGives, leave-gives, unissued-silent}

@@ -32,7 +32,7 @@ use Rattle.com_laws_messages.specs.Messages.{requests, message_or, request, para
 use Rattle.com_laws_messages.proofs.Outs.{OutGives, out-gives}
 use Rattle.com_laws_messages.proofs.Carrying.{Carries, legal-carries}
 use Rattle.com_laws_messages.proofs.Requests.{Stands, Standing, new-standing, stands-later, old-arguments}
-use Rattle.com_laws_messages.proofs.Holding.{held-few}
+use Rattle.com_laws_messages.proofs.Fields.{held-few}
 use Rattle.com_laws_messages.proofs.Literals.{scenario-clean, iids-fit}
 use Rattle.com_laws_messages.proofs.Fitting.{RefsFit, fields-fit, sent-fit, named-fits, cause-fits}
 

@@ -2,11 +2,15 @@
 use Rattle.std.proofs.Common.{subst, sym, ap, ◌∙◌, append_assoc, length-append, arith}
 use Rattle.std.proofs.lemmas.Grind.{common_steps}
 use Rattle.std.proofs.lemmas.Nat.{from_le_bytes-to_le_bytes_8}
-use Rattle.std.specs.Prelude.{◌≡◌, refl, ℕ, zero, suc, ◌+◌, ◌-◌, ◌/◌, ◌^◌, ◌≤◌, Bool, true, false, cond, ◌==◌, ◌&&◌, nat_le, List, [], ◌∷◌, ◌++◌, length, map, slice_index_or}
+use Rattle.std.specs.Prelude.{◌≡◌, refl, ℕ, zero, suc, ◌+◌, ◌-◌, ◌*◌, ◌/◌, ◌^◌, ◌≤◌, Bool, true, false, cond, ◌==◌, ◌&&◌, nat_le, List, [], ◌∷◌, ◌++◌, length, map, slice_index_or}
 use Rattle.com_base.specs.declared.standard.StdFields.{StdFields}
 use Rattle.com_base.specs.declared.value.RefValue.{RefValue}
 use Rattle.com_base.specs.declared.value.MarshalMode.TheVariants as marshal
+use Rattle.com_model.specs.declared.deeds.Entry.{Entry}
 use Rattle.com_model.specs.declared.scenario.Scenario.{Scenario}
+use Rattle.com_model.specs.Books.{books}
+use Rattle.com_model.specs.Formed.{Formed}
+use Rattle.com_model.specs.Rules.{legal}
 use Rattle.com_model.specs.Sight.{Sight}
 use Rattle.com_model.specs.Deeds.{packet_fields}
 use Rattle.com_refs_books.specs.Counting.{numbers_from}
@@ -14,6 +18,7 @@ use Rattle.com_refs_books.specs.declared.keeps.Packet.{Packet}
 use Rattle.com_refs_books.specs.Changes.{Books, no_packet, packet, Change, ToProxy, ToPacket, Split, Join, Return, ToCookie, Withdraw, Same, new_packet, changed, Marshals, marshal_change, change, marshal_all, entered_rows}
 use Rattle.com_model.proofs.Fines.{cond-is}
 use Rattle.com_laws_balance.proofs.Packets.{AllLive}
+use Rattle.com_laws_ranges.proofs.Holding.{proxies-few}
 use Rattle.com_exchange.specs.Received.{reference_in_fields, packet_in_fields}
 
 -- ---- what is marshalled is appended
@@ -39,6 +44,9 @@ pub record Added (n : ℕ) (b c : Books) (rs : List RefValue) : Type 0 where
 pub record FewHeld (n : ℕ) (b : Books) : Type 0 where
   pub five : 5 ≤ n
   pub proxies : (a o i : ℕ) → b.proxy a o i ≤ n
+
+pub held-few : (s : Scenario) (h : List Entry) → Formed s → legal s h → FewHeld (20 * length h + 5) (books s h)
+held-few s h f q = record { five = omega arith; proxies = λ a o i. let z : (books s h).proxy a o i ≤ 20 * length h = proxies-few s h f q a o i in omega (arith, z) }
 
 record Pushed (n : ℕ) (b c : Books) (r : RefValue) : Type 0 where
   refs : ℕ

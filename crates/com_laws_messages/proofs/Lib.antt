@@ -8,7 +8,6 @@ pub mod Literals
 pub mod Sending
 pub mod Naming
 pub mod Requests
-pub mod Holding
 pub mod Fitting
 pub mod Calls
 pub mod Reading

@@ -32,7 +32,7 @@ use Rattle.com_model.specs.Endings.{ending, is_leave}
 use Rattle.com_model.specs.Places.{Ground, ground}
 use Rattle.com_refs_books.specs.declared.keeps.Packet.{Packet}
 use Rattle.com_refs_books.specs.Counting.{numbers_from}
-use Rattle.com_refs_books.specs.Changes.{Books, packet, Change, ToProxy, ToPacket, Split, Join, Return, ToCookie, Withdraw, Same, changed, Row, change, marshal_all, entered_rows, made_since}
+use Rattle.com_refs_books.specs.Changes.{Books, packet, marshal_all, entered_rows, made_since}
 use Rattle.com_model.specs.Books.{out_values, rows, most, closed, books}
 use Rattle.com_model.specs.Formed.{Formed}
 use Rattle.com_model.specs.Issue.{sent}
@@ -46,6 +46,7 @@ use Rattle.com_laws_safety.proofs.Small.{same-number}
 use Rattle.com_laws_balance.proofs.Makings.{same-named as object-named}
 use Rattle.com_laws_balance.proofs.Packets.{Grown, AllLive}
 use Rattle.com_laws_balance.proofs.Sendings.{entry-grown, end-grown}
+use Rattle.com_laws_ranges.proofs.Holding.{rows-keep}
 use Rattle.com_exchange.specs.declared.receiving.Request.{Request}
 use Rattle.com_exchange.specs.declared.receiving.RequestError.{RequestError}
 use Rattle.com_exchange.specs.Received.{Sendable, reference_in_fields, packet_in_fields}
@@ -193,29 +194,6 @@ new-standing s h n l c o i m r k (Some bytes) few short four room fit can z t =
         omega (arith, a, d, e, f, h)
 
 -- ---- a call that was issued
-
--- Rows leave which packets are a call's.
-pub record SameOwners (b c : Books) : Type 0 where
-  pub arguments : c.arguments ≡ b.arguments
-  pub result : c.result ≡ b.result
-
-change-keeps : (b : Books) (c : Change) → SameOwners b (changed b c)
-change-keeps b (ToProxy x y z m) = record { arguments = refl; result = refl }
-change-keeps b (ToPacket m x y r) = record { arguments = refl; result = refl }
-change-keeps b (Split x y z m) = record { arguments = refl; result = refl }
-change-keeps b (Join x q) = record { arguments = refl; result = refl }
-change-keeps b (Return q) = record { arguments = refl; result = refl }
-change-keeps b (ToCookie x y m) = record { arguments = refl; result = refl }
-change-keeps b (Withdraw g) = record { arguments = refl; result = refl }
-change-keeps b Same = record { arguments = refl; result = refl }
-
-pub rows-keep : (owned : ℕ → ℕ → Bool) (b : Books) (rs : List Row) → SameOwners b (entered_rows owned b rs)
-rows-keep owned b [] = record { arguments = refl; result = refl }
-rows-keep owned b (r ∷ rs) =
-    let c : Books = changed b (change owned b r) in
-    let x : SameOwners b c = change-keeps b (change owned b r) in
-    let y : SameOwners c (entered_rows owned c rs) = rows-keep owned c rs in
-    record { arguments = y.arguments ∙ x.arguments; result = y.result ∙ x.result }
 
 fields-with : Scenario → ℕ → Packet → ℕ → StdFields
 fields-with s n k p = record {

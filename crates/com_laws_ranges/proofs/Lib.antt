@@ -1,5 +1,6 @@
 pub mod Homes
 pub mod Numbers
+pub mod Holding
 pub mod Standing
 pub mod Writing
 pub mod Fitting

@@ -270,14 +270,18 @@ each-few n [] i m p = omega arith
 each-few n (x ∷ xs) zero m p = method-few n x.methods m p.0.1
 each-few n (x ∷ xs) (suc i) m p = each-few (n + 1) xs i m p.1
 
+-- No method has more than four parameters.
+pub parameters-few : (s : Scenario) → Formed s → (i m : ℕ) → length (parameters (method_at s.classes i m)) ≤ 4
+parameters-few s f i m = each-few 0 s.classes.interfaces i m f.interfaces.each
+
 pub out-few : (s : Scenario) → Formed s → (b : Books) (m : Bool) (x : Option Action) → length (out_values s b m x) ≤ 4
 out-few s f b m (Some (action.Call held i k args to)) =
     let e : length (sent_values m b.live (parameters (method_at s.classes i k)) args) ≡ length (parameters (method_at s.classes i k)) = sent-length m b.live (parameters (method_at s.classes i k)) args in
-    let p : length (parameters (method_at s.classes i k)) ≤ 4 = each-few 0 s.classes.interfaces i k f.interfaces.each in
+    let p : length (parameters (method_at s.classes i k)) ≤ 4 = parameters-few s f i k in
     omega (arith, e, p)
 out-few s f b m _ = omega arith
 
-carried-few : (vs : List Value) → length (carried vs) ≤ length vs
+pub carried-few : (vs : List Value) → length (carried vs) ≤ length vs
 carried-few [] = omega arith
 carried-few (value.Ref (Some r) ∷ vs) = let e : length (carried vs) ≤ length vs = carried-few vs in omega (arith, e)
 carried-few (value.Ref None ∷ vs) = let e : length (carried vs) ≤ length vs = carried-few vs in omega (arith, e)
@@ -328,7 +332,7 @@ one-row r p g =
 if-rows : (b : Bool) (xs ys : List Row) → FewRows xs → FewRows ys → FewRows (cond b xs ys)
 if-rows b xs ys p q = cond-is FewRows b xs ys p q
 
-result-few : (v : Option Value) → length (result_list v) ≤ 4
+pub result-few : (v : Option Value) → length (result_list v) ≤ 4
 result-few None = omega arith
 result-few (Some v) = omega arith
 

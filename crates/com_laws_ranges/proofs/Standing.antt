@@ -31,11 +31,15 @@ use Rattle.com_laws_safety.proofs.Released.{releases}
 use Rattle.com_laws_safety.proofs.Sources.{next-source}
 use Rattle.com_laws_safety.proofs.Small.{and-left}
 use Rattle.com_laws_ranges.specs.Bounds.{Counted, HasPlace, IssuedCall, NextCall, TakesBack, FitsParts}
+use Rattle.com_laws_ranges.proofs.Holding.{proxies-few}
 use Rattle.com_laws_ranges.proofs.Homes.{HomesSay, homes-say}
 use Rattle.com_laws_ranges.proofs.Numbers.{calls-few, causes-few, objects-few, stas-few, openers-few, served-few, counts-few, posted-few, FewBooks, books-few}
 
 at-most : (m n k j : ℕ) → m ≡ n → k ≡ j → n ≤ j → m ≤ k
 at-most m n k j p q r = omega (arith, p, q, r)
+
+twenty-each : (m n k j : ℕ) → m ≡ n → k ≡ j → n ≤ 20 * j → m ≤ 20 * k
+twenty-each m n k j p q r = omega (arith, p, q, r)
 
 pub few : (s : Scenario) (st : State) (h : List Entry) → Formed s → StandsFor s st h → Counted st st.entries
 few s st h f p =
@@ -56,6 +60,7 @@ few s st h f p =
       posted = λ l. at-most _ _ _ _ (ap (λ (m : Mail). m.posted) (p.lanes.mail l)) n (posted-few h l);
       packets = omega (arith, n, bp, np);
       cookies = omega (arith, n, bg, ng);
+      proxies = λ a o i. twenty-each _ _ _ _ (p.books.proxy a o i) n (proxies-few s h f p.lawful a o i);
     }
 
 -- ---- within the limit

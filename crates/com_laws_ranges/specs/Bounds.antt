@@ -14,7 +14,7 @@ use Rattle.com_scene.specs.Ranges.{WritesInRange}
 use Rattle.com_state.specs.Parts.{lanes_of}
 
 -- Of a state after so many entries: each makes one call, object, STA, cookie or opener at most, and 4
--- packets.
+-- packets, and gives 20 public references at most.
 pub record Counted (st : State) (n : ℕ) : Type 0 where
   pub calls : length st.issues ≤ n
   pub objects : length st.makings ≤ n
@@ -26,6 +26,7 @@ pub record Counted (st : State) (n : ℕ) : Type 0 where
   pub posted : (l : ℕ) → (slice_index_or st.mail l no_mail).posted ≤ n
   pub packets : length (books_in st).packets ≤ 4 * n
   pub cookies : length (books_in st).cookies ≤ n
+  pub proxies : (a o i : ℕ) → (books_in st).proxy a o i ≤ 20 * n
 
 -- One more of each fits the types that count them, and 4 more packets.
 pub record HasPlace (st : State) : Type 0 where

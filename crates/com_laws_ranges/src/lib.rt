@@ -23,8 +23,9 @@ pub use taken::entries_are_taken;
 pub use works::{open_bodies_have_work, works_bite};
 
 /// Where a state stands for a history of a formed scenario, there are no more calls, objects, STAs, cookies,
-/// causalities, openers of a lane, initialisations and words than entries, and no more than four times as
-/// many packets (`few`). So within the limit of entries one more of each can be counted (`place`).
+/// causalities, openers of a lane, initialisations and words than entries, no more than four times as many
+/// packets, and a proxy has no more than twenty times as many public references of an interface (`few`). So
+/// within the limit of entries one more of each can be counted (`place`).
 pub fn counters()
     ensures few { (s : Scenario) (st : State) (h : List Entry) → Formed s → StandsFor s st h
         → Counted st st.entries }

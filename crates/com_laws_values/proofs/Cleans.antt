@@ -34,8 +34,8 @@ literal-plain : (v : Value) → IsLiteral v → IsPlain v
 literal-plain (value.Ref held) p = p
 literal-plain (value.Int x) p = tt
 literal-plain (value.Bool x) p = tt
-literal-plain (value.Text x) p = p.0
-literal-plain (value.Bytes x) p = tt
+literal-plain (value.Text x) p = p
+literal-plain (value.Bytes x) p = p
 literal-plain (value.Guid x) p = tt
 
 operand-clean : (o : Op) → IsOperand o → CleanOp o

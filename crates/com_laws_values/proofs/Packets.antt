@@ -1,5 +1,6 @@
 -- What an entry does to packets and cookies: each outstanding packet and each cookie that was not revoked has a reference that
 -- passes a test.
+use Rattle.std.proofs.Common.{arith}
 use Rattle.std.proofs.lemmas.List.Elements.{All-set, All-map, All-append, All-cons, All-nil, All-weaker}
 use Rattle.std.specs.Prelude.{◌≡◌, ℕ, zero, suc, ◌/◌, ◌==◌, ◌&&◌, pos, negsuc, Bool, true, false, not, nat_le, List, [], ◌∷◌, ◌++◌, map, Option, Some, None, All}
 use Rattle.com_base.specs.declared.hresult.HResult.{HResult}
@@ -44,8 +45,8 @@ more-tables P Q f b g = record {
 pub default-by : (R : RefValue → Type 0) (k : Kind) → ValueBy R (default_of k)
 default-by R kind.Int = tt
 default-by R kind.Bool = tt
-default-by R kind.Text = All-nil _
-default-by R kind.Bytes = tt
+default-by R kind.Text = (All-nil _, omega arith)
+default-by R kind.Bytes = omega arith
 default-by R kind.Guid = tt
 default-by R (kind.Ref i) = tt
 
@@ -55,7 +56,7 @@ live-by R true live (value.Ref None) p = tt
 live-by R true live (value.Int x) p = tt
 live-by R true live (value.Bool x) p = tt
 live-by R true live (value.Text x) p = p
-live-by R true live (value.Bytes x) p = tt
+live-by R true live (value.Bytes x) p = p
 live-by R true live (value.Guid x) p = tt
 live-by R false live v p = p
 

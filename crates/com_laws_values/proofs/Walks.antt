@@ -3,7 +3,8 @@
 use Rattle.std.proofs.Common.{arith}
 use Rattle.std.proofs.lemmas.List.Elements.{All-set, All-map, All-drop, All-append, All-replicate, All-cons, All-nil}
 use Rattle.std.proofs.lemmas.Grind.{common_steps}
-use Rattle.std.specs.Prelude.{ℕ, zero, suc, ◌+◌, pos, List, [], ◌∷◌, drop, Option, Some, None, All}
+use Rattle.std.specs.Prelude.{ℕ, zero, suc, ◌+◌, ◌≤◌, pos, List, [], ◌∷◌, length, drop, Option, Some, None, All}
+use Rattle.com_base.specs.declared.limits.TheConstants.{LITERAL_LIMIT}
 use Rattle.com_base.specs.declared.value.RefValue.{RefValue}
 use Rattle.com_base.specs.declared.value.Value.{Value}
 use Rattle.com_base.specs.declared.value.Value.TheVariants as value
@@ -56,7 +57,7 @@ more-value P Q f (value.Ref held) p = more-held P Q f held p
 more-value P Q f (value.Int x) p = tt
 more-value P Q f (value.Bool x) p = tt
 more-value P Q f (value.Text x) p = p
-more-value P Q f (value.Bytes x) p = tt
+more-value P Q f (value.Bytes x) p = p
 more-value P Q f (value.Guid x) p = tt
 
 pub more-result : (P Q : RefValue → Type 0) → ((r : RefValue) → P r → Q r) → (v : Option Value) → ResultBy P v → ResultBy Q v
@@ -84,7 +85,8 @@ more-action P Q f _ p = tt
 
 abbrev pub IsPlain : Value → Type 0
 IsPlain (value.Ref held) = ⊥
-IsPlain (value.Text t) = IsCharacters t
+IsPlain (value.Text t) = IsCharacters t × (length t ≤ LITERAL_LIMIT)
+IsPlain (value.Bytes t) = length t ≤ LITERAL_LIMIT
 IsPlain _ = Unit {0}
 
 abbrev pub CleanOp : Op → Type 0
@@ -112,7 +114,7 @@ plain-by R (value.Ref held) p = absurd p
 plain-by R (value.Int x) p = tt
 plain-by R (value.Bool x) p = tt
 plain-by R (value.Text x) p = p
-plain-by R (value.Bytes x) p = tt
+plain-by R (value.Bytes x) p = p
 plain-by R (value.Guid x) p = tt
 
 value-by : (R : RefValue → Type 0) (f : FrameView) (o : Op) → FrameBy R f → CleanOp o → ValueBy R (value_of f o)
@@ -210,7 +212,7 @@ plain-all R (value.Ref held ∷ vs) p = plain-all R vs (all-tail (ValueBy R) (va
 plain-all R (value.Int x ∷ vs) p = All-cons (ValueBy R) (value.Int x) (plain_values vs) tt (plain-all R vs (all-tail (ValueBy R) (value.Int x) vs p))
 plain-all R (value.Bool x ∷ vs) p = All-cons (ValueBy R) (value.Bool x) (plain_values vs) tt (plain-all R vs (all-tail (ValueBy R) (value.Bool x) vs p))
 plain-all R (value.Text x ∷ vs) p = All-cons (ValueBy R) (value.Text x) (plain_values vs) (all-head (ValueBy R) (value.Text x) vs p) (plain-all R vs (all-tail (ValueBy R) (value.Text x) vs p))
-plain-all R (value.Bytes x ∷ vs) p = All-cons (ValueBy R) (value.Bytes x) (plain_values vs) tt (plain-all R vs (all-tail (ValueBy R) (value.Bytes x) vs p))
+plain-all R (value.Bytes x ∷ vs) p = All-cons (ValueBy R) (value.Bytes x) (plain_values vs) (all-head (ValueBy R) (value.Bytes x) vs p) (plain-all R vs (all-tail (ValueBy R) (value.Bytes x) vs p))
 plain-all R (value.Guid x ∷ vs) p = All-cons (ValueBy R) (value.Guid x) (plain_values vs) tt (plain-all R vs (all-tail (ValueBy R) (value.Guid x) vs p))
 
 references-all : (R : RefValue → Type 0) (vs : List Value) → All (ValueBy R) vs → All (HeldBy R) (references vs)

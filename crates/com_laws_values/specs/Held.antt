@@ -1,6 +1,7 @@
--- What places, calls, packets and cookies hold: references by interfaces of their objects' classes, and texts
--- of characters.
-use Rattle.std.specs.Prelude.{◌≡◌, ℕ, ◌≤◌, true, false, List, Option, Some, None, All}
+-- What places, calls, packets and cookies hold: references by interfaces of their objects' classes, and short
+-- texts of characters.
+use Rattle.std.specs.Prelude.{◌≡◌, ℕ, ◌≤◌, true, false, List, length, Option, Some, None, All}
+use Rattle.com_base.specs.declared.limits.TheConstants.{LITERAL_LIMIT}
 use Rattle.com_base.specs.declared.value.RefValue.{RefValue}
 use Rattle.com_base.specs.declared.value.Value.{Value}
 use Rattle.com_base.specs.declared.value.Value.TheVariants as value
@@ -36,10 +37,12 @@ abbrev pub HeldBy : (RefValue → Type 0) → Option RefValue → Type 0
 HeldBy R None = Unit {0}
 HeldBy R (Some r) = R r
 
--- A value of which R holds where it is a reference, and whose text is one of characters.
+-- A value of which R holds where it is a reference, and whose text is one of characters. Texts and bytes have
+-- at most as many bytes as a literal.
 abbrev pub ValueBy : (RefValue → Type 0) → Value → Type 0
 ValueBy R (value.Ref held) = HeldBy R held
-ValueBy R (value.Text t) = IsCharacters t
+ValueBy R (value.Text t) = IsCharacters t × (length t ≤ LITERAL_LIMIT)
+ValueBy R (value.Bytes t) = length t ≤ LITERAL_LIMIT
 ValueBy R _ = Unit {0}
 
 -- A value of which this holds, or none.

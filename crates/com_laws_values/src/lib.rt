@@ -1,5 +1,5 @@
 //! What places, calls, packets and cookies hold in every legal history: references by interfaces of their
-//! objects' classes, and texts of characters. Stated on functions that do nothing.
+//! objects' classes, and short texts of characters. Stated on functions that do nothing.
 #![tactic(auto)]
 
 ghost use Rattle.std.specs.Prelude.{List};
@@ -14,12 +14,14 @@ ghost use Rattle.com_laws_values.specs.Held.{HoldsDeclared, NamesDeclared};
 
 /// In every legal history of a formed scenario each reference in a script, a body, a link, a sent value, an
 /// answer, an outstanding packet or a cookie that was not revoked names an object that was made, by IUnknown
-/// or an interface of its class's list; and each text among these values is one of characters.
+/// or an interface of its class's list; each text among these values is one of characters; and texts and bytes
+/// have at most as many bytes as a literal.
 pub fn holds_declared()
     ensures { (s : Scenario) (h : List Entry) → Formed s → legal s h → HoldsDeclared s h }
 {}
 
-/// In every legal history of a formed scenario each entry names references, and carries texts, only such.
+/// In every legal history of a formed scenario each entry names references, and carries texts and bytes, only
+/// such.
 pub fn names_declared()
     ensures { (s : Scenario) (h : List Entry) → Formed s → legal s h → EachEntry (NamesDeclared s) h }
 {}

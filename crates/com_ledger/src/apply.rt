@@ -105,8 +105,9 @@ fn keep_made(touched: &mut Vec<u32>, objects: u32)
 // brought, and of what its row ends.
 fn most_noted(deed: &Deed, objects: &Objects, arguments: usize, lost: &[Move]) -> usize
     requires { arguments < 2 ^ 32 }
-    ensures { result ≡ length lost.now + arguments + 3
+    ensures value { result ≡ length lost.now + arguments + 3
         + ended_objects (length objects.now.tables.makings) deed.now }
+    ensures few { result + 1 < 2 ^ 64 }
 {
     let ended = match deed {
         Deed::Uninit { .. } => objects.len() as usize,
@@ -408,9 +409,10 @@ impl Books {
 }
 
 impl Ledger {
-    /// How many objects at most an entry leaves without a holder.
+    /// How many objects at most an entry leaves without a holder: usize tells one more, too.
     pub fn most_left(&self, deed: &Deed, objects: &Objects, moves: &Moves) -> usize
-        ensures { result ≡ most_left self.now.calls objects.now.tables deed.now moves.now }
+        ensures value { result ≡ most_left self.now.calls objects.now.tables deed.now moves.now }
+        ensures few { result + 1 < 2 ^ 64 }
     {
         let arguments = self.books.arguments_of(deed) as usize;
         most_noted(deed, objects, arguments, moves.losses())

@@ -5,3 +5,4 @@ pub mod Chains
 pub mod Outs
 pub mod Words
 pub mod Says
+mod Sized

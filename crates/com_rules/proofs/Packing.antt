@@ -1,7 +1,7 @@
 -- The packets that an entry makes are those that were foreseen.
 use Rattle.std.specs.Prelude.{map}
 use Rattle.std.specs.List.{AllByRecursion}
-use Rattle.std.proofs.Common.{◌≡◌, ℕ, zero, suc, ◌+◌, ◌-◌, ◌<◌, ◌≤◌, Bool, true, false, if◌then◌else◌, List, [], ◌∷◌, ◌++◌, length, get_or, take, drop, slice_index_or, refl, sym, ap, subst, ◌∙◌, append_assoc, append-nil, add-one, arith}
+use Rattle.std.proofs.Common.{◌≡◌, ℕ, zero, suc, ◌+◌, ◌-◌, ◌<◌, ◌≤◌, ◌^◌, Bool, true, false, if◌then◌else◌, List, [], ◌∷◌, ◌++◌, length, get_or, take, drop, slice_index_or, refl, sym, ap, subst, ◌∙◌, append_assoc, append-nil, add-one, arith}
 use Rattle.std.proofs.lemmas.List.{append_cancel_left, map-append, length-append, take_more}
 use Rattle.std.proofs.lemmas.Grind.{common_steps}
 use Rattle.std.proofs.Math.Seq.{drop-cons}
@@ -195,8 +195,24 @@ fields_are s v a xs refs all held =
 
 -- ---- the loops
 
-abbrev pub FieldsSoFar : Scenario → Sight → (made : ℕ) → (refs : List ℕ) → List Outgoing → ℕ → List StdFields → Type 0
-FieldsSoFar s v made refs rows i fields = fields ++ fields_from s v made refs (drop i rows) (length fields) ≡ fields_from s v made refs rows 0
+pub record FieldsSoFar (s : Scenario) (v : Sight) (made : ℕ) (refs : List ℕ) (rows : List Outgoing) (i : ℕ) (fields : List StdFields) : Type 0 where
+  pub all : fields ++ fields_from s v made refs (drop i rows) (length fields) ≡ fields_from s v made refs rows 0
+  pub few : length fields ≤ i
+
+pub fields_first : (s : Scenario) (v : Sight) (made : ℕ) (refs : List ℕ) (rows : List Outgoing) → FieldsSoFar s v made refs rows 0 []
+fields_first s v made refs rows = record { all = refl; few = omega arith }
+
+-- the next packet's number, where there is room for one of each row
+pub fields_fit : (s : Scenario) (v : Sight) (made : ℕ) (refs : List ℕ) (rows : List Outgoing) (i : ℕ) (fields : List StdFields)
+    → FieldsSoFar s v made refs rows i fields → i < length rows → made + length rows < 2 ^ 32 → made + 1 + length fields < 2 ^ 32
+fields_fit s v made refs rows i fields so_far within room = let few : length fields ≤ i = so_far.few in omega (arith, few, within, room)
+
+field_one : (s : Scenario) (v : Sight) (made : ℕ) (refs : List ℕ) (x : Outgoing) (k : ℕ) → length (field_of s v made refs x k) ≤ 1
+field_one s v made refs x k =
+    let one : List StdFields = packet_fields s v (new_packet marshal.Normal x.object x.iface (slice_index_or refs k 0)) (made + 1 + k) ∷ [] in
+    either x.is_connected _
+    (λ holds. let short : length one ≤ 1 = omega arith in rw holds short)
+    (λ fails. let none : 0 ≤ 1 = omega arith in rw fails none)
 
 field_more : (s : Scenario) (v : Sight) (made : ℕ) (refs : List ℕ) (x : Outgoing) (xs : List Outgoing) (fields : List StdFields)
     → fields ++ fields_from s v made refs (x ∷ xs) (length fields)
@@ -221,17 +237,24 @@ pub fields_more : (s : Scenario) (v : Sight) (made : ℕ) (refs : List ℕ) (row
 fields_more s v made refs rows i fields new x within is new_is so_far =
     let split : drop i rows ≡ x ∷ drop (suc i) rows = drop-cons rows i x within ∙ ap (λ (z : Outgoing). z ∷ drop (suc i) rows) (sym is) in
     let more : suc i ≡ i + 1 = omega arith in
-    ap (λ (l : List StdFields). l ++ fields_from s v made refs (drop (i + 1) rows) (length l)) new_is
-    ∙ ap (λ (k : ℕ). (fields ++ field_of s v made refs x (length fields)) ++ fields_from s v made refs (drop k rows) (length (fields ++ field_of s v made refs x (length fields)))) (sym more)
-    ∙ sym (field_more s v made refs x (drop (suc i) rows) fields)
-    ∙ ap (λ (l : List Outgoing). fields ++ fields_from s v made refs l (length fields)) (sym split)
-    ∙ so_far
+    let one : List StdFields = field_of s v made refs x (length fields) in
+    let short : length one ≤ 1 = field_one s v made refs x (length fields) in
+    let before : length fields ≤ i = so_far.few in
+    let longer : length new ≡ length fields + length one = ap length new_is ∙ length-append fields one in
+    record {
+      all = ap (λ (l : List StdFields). l ++ fields_from s v made refs (drop (i + 1) rows) (length l)) new_is
+          ∙ ap (λ (k : ℕ). (fields ++ field_of s v made refs x (length fields)) ++ fields_from s v made refs (drop k rows) (length (fields ++ field_of s v made refs x (length fields)))) (sym more)
+          ∙ sym (field_more s v made refs x (drop (suc i) rows) fields)
+          ∙ ap (λ (l : List Outgoing). fields ++ fields_from s v made refs l (length fields)) (sym split)
+          ∙ so_far.all;
+      few = omega (arith, short, before, longer);
+    }
 
 pub fields_all : (s : Scenario) (v : Sight) (made : ℕ) (refs : List ℕ) (rows : List Outgoing) (i : ℕ) (fields : List StdFields)
     → length rows ≤ i → FieldsSoFar s v made refs rows i fields → fields ≡ fields_from s v made refs rows 0
 fields_all s v made refs rows i fields past so_far =
     let none : drop i rows ≡ [] = drop_of_length-le rows past in
-    sym (append-nil fields) ∙ ap (λ (l : List Outgoing). fields ++ fields_from s v made refs l (length fields)) (sym none) ∙ so_far
+    sym (append-nil fields) ∙ ap (λ (l : List Outgoing). fields ++ fields_from s v made refs l (length fields)) (sym none) ∙ so_far.all
 
 -- ---- the rows of references
 

@@ -1,18 +1,22 @@
--- What is asked of the numbers of an action, and which function makes its entry. A call and a Leave send
+-- What is asked of the numbers and the values of an action, and which function makes its entry. A call and a Leave send
 -- values. Of the actions that send none, nine are on the lane, on a place or on a buffer, six are on an
 -- object or a cookie, and the other three, Marshal, Unmarshal and Drop, make or read a packet.
-use Rattle.std.specs.Prelude.{◌<◌, ◌^◌, length}
+use Rattle.std.specs.Prelude.{◌<◌, ◌^◌, length, All}
 use Rattle.com_body.specs.declared.actions.Action.{Action}
 use Rattle.com_body.specs.declared.actions.Action.TheVariants as action
 use Rattle.com_deeds.specs.Seen.{FitsNumber}
+use Rattle.com_exchange.specs.Messages.{CanTravel}
+use Rattle.com_exchange.specs.Sent.{ResultCanTravel}
 
 -- The numbers fit, as those of each step of a formed scenario do: an interface that a Create or a Query asks
--- for by its number has a number of 16 bits, and the bytes of a Raw are fewer than 2 ^ 32. Of every other
--- action nothing is asked.
+-- for by its number has a number of 16 bits, and the bytes of a Raw are fewer than 2 ^ 32. The arguments of a
+-- call can travel in a request, and the result of a Leave in a reply. Of every other action nothing is asked.
 abbrev pub FitsAction : Action → Type 0
 FitsAction (action.Create slot k i) = FitsNumber i
 FitsAction (action.Query to held i) = FitsNumber i
 FitsAction (action.Raw b bytes) = length bytes < 2 ^ 32
+FitsAction (action.Call held i m args to) = All CanTravel args
+FitsAction (action.Leave hr value) = ResultCanTravel value
 FitsAction _ = Unit {0}
 
 -- The actions that send no values: all but a call and a Leave.

@@ -1,14 +1,16 @@
 //! The packets that an entry makes: the public references that they hold, and the fields of their bytes.
 
-ghost use Rattle.std.specs.Prelude.{◌≡◌, ◌++◌, ◌+◌, ℕ, IfOk, OnOk, Some, None, true, length, map};
+ghost use Rattle.std.specs.Prelude.{◌≡◌, ◌++◌, ◌+◌, ◌<◌, ◌≤◌, ◌^◌, ℕ, IfOk, OnOk, Some, None, true, length, map};
 ghost use Rattle.std.specs.Prelude.{slice_index_or};
 ghost use Rattle.std.specs.List.{AllByRecursion};
+ghost use Rattle.com_base.specs.declared.limits.TheConstants.{PARAMETER_LIMIT};
 ghost use Rattle.com_body.specs.declared.actions.Action.TheVariants as action;
 ghost use Rattle.com_refs_books.specs.Changes.{Books, marshal_all, new_packet};
 ghost use Rattle.com_exchange.specs.Previews.{IsOutgoing, reference_of};
 ghost use Rattle.com_model.specs.Deeds.{deed_of, fields_since, marshalled, packet_fields, with_packets};
 ghost use Rattle.com_model.specs.Lists.{number_or_zero};
 ghost use Rattle.com_rules.specs.Packets.{refs_made, field_of, fields_from};
+ghost use Rattle.com_rules.specs.Room.{HasRoom};
 ghost use Rattle.com_view.specs.Seen.{bare, sight_by, running_seen};
 
 use crate::alone::is_connected;
@@ -19,15 +21,16 @@ use com_exchange::{Outgoing, packet_refs};
 use com_model::Deed;
 use com_refs_books::Packet;
 use com_view::View;
-use std::alloc::{AllocError, Global};
+use std::alloc::Global;
 
-// What a proxy of the lane's apartment has. As many as no 32 bits count are more than there is memory for.
-fn public<B: Found>(view: &View<'_>, books: &B, lane: u32, held: RefValue) -> Result<u32, Memory>
-    ensures { IfOk result (λ refs. refs
-        ≡ (B.books books.now).proxy (number_or_zero (running_seen view.now lane)) held.object held.iface) }
+// What a proxy of the lane's apartment has.
+fn public<B: Found>(view: &View<'_>, books: &B, lane: u32, held: RefValue) -> u32
+    requires { HasRoom view.now (B.books books.now) }
+    ensures { result
+        ≡ (B.books books.now).proxy (number_or_zero (running_seen view.now lane)) held.object held.iface }
 {
     let apartment = number_or_zero(view.running(lane));
-    u32::try_from(books.public(apartment, held.object, held.iface)).map_err(|_| AllocError)
+    books.public(apartment, held.object, held.iface) as u32
 }
 
 // The public references of a new packet.
@@ -48,10 +51,11 @@ fn refs_made(mode: MarshalMode, is_owned: bool, held: u32) -> u32
 }
 
 // The number of the packet that comes next.
-fn next_packet<B: Found>(books: &B) -> Result<u32, Memory>
-    ensures { IfOk result (λ number. number ≡ length (B.books books.now).packets + 1) }
+fn next_packet<B: Found>(books: &B) -> u32
+    requires { length (B.books books.now).packets + 1 < 2 ^ 32 }
+    ensures { result ≡ length (B.books books.now).packets + 1 }
 {
-    books.packets().checked_add(1).ok_or(AllocError)
+    books.packets() + 1
 }
 
 // The row of a new packet.
@@ -92,13 +96,14 @@ fn marshalled_now<B: Found>(
     mode: MarshalMode,
     held: RefValue,
 ) -> Result<Deed, Memory>
-    requires { (B.books books.now).live held.object ≡ true }
+    requires room { HasRoom view.now (B.books books.now) }
+    requires live { (B.books books.now).live held.object ≡ true }
     ensures { IfOk result (λ made. made
         ≡ marshalled view.now.scenario (sight_by view.now (B.books books.now)) lane mode (Some held) None) }
 {
-    let number = next_packet(books)?;
+    let number = next_packet(books);
     let is_owned = view.owns(lane, held.object);
-    let refs = refs_made(mode, is_owned, public(view, books, lane, held)?);
+    let refs = refs_made(mode, is_owned, public(view, books, lane, held));
     let fields = fields_as(view, number, mode, held, refs);
     let deed = marshal_deed(alloc, number, mode, held, refs, &fields)?;
     Ok(deed)
@@ -113,6 +118,7 @@ pub fn marshalled_packet<B: Found>(
     held: Option<RefValue>,
     mode: MarshalMode,
 ) -> Result<Deed, Memory>
+    requires room { HasRoom view.now (B.books books.now) }
     ensures { IfOk result (λ made. (buffer : ℕ)
         → made ≡ deed_of view.now.scenario (sight_by view.now (B.books books.now)) lane
         (action.Marshal buffer held mode)) }
@@ -128,23 +134,19 @@ pub fn marshalled_packet<B: Found>(
 }
 
 // A reference that a call is to marshal, as the lane's apartment holds it.
-fn outgoing<B: Found>(
-    view: &View<'_>,
-    books: &B,
-    lane: u32,
-    held: RefValue,
-) -> Result<Outgoing, Memory>
-    ensures outgoing { IfOk result (λ row. IsOutgoing (sight_by view.now (B.books books.now)).owns
-        (B.books books.now) (number_or_zero (running_seen view.now lane)) row) }
-    ensures reference { IfOk result (λ row. reference_of row ≡ held) }
+fn outgoing<B: Found>(view: &View<'_>, books: &B, lane: u32, held: RefValue) -> Outgoing
+    requires { HasRoom view.now (B.books books.now) }
+    ensures outgoing { IsOutgoing (sight_by view.now (B.books books.now)).owns
+        (B.books books.now) (number_or_zero (running_seen view.now lane)) result }
+    ensures reference { reference_of result ≡ held }
 {
-    Ok(Outgoing {
+    Outgoing {
         object: held.object,
         iface: held.iface,
-        held: public(view, books, lane, held)?,
+        held: public(view, books, lane, held),
         is_owned: view.owns(lane, held.object),
         is_connected: books.is_connected(held.object),
-    })
+    }
 }
 
 // All references that a call is to marshal.
@@ -156,6 +158,7 @@ fn all_outgoing<B: Found>(
     lane: u32,
     carried: &[RefValue],
 ) -> Result<Vec<Outgoing>, Memory>
+    requires { HasRoom view.now (B.books books.now) }
     ensures outgoing { IfOk result (λ rows. AllByRecursion (IsOutgoing (sight_by view.now
         (B.books books.now)).owns (B.books books.now) (number_or_zero
         (running_seen view.now lane))) rows.items) }
@@ -163,7 +166,7 @@ fn all_outgoing<B: Found>(
 {
     let mut rows = Vec::with_capacity(alloc, carried.len())?;
     for held in carried {
-        rows.push(outgoing(view, books, lane, *held)?)?;
+        rows.push(outgoing(view, books, lane, *held))?;
     }
     Ok(rows)
 }
@@ -176,6 +179,7 @@ fn append_field(
     refs: &[u32],
     row: &Outgoing,
 ) -> Result<(), Memory>
+    requires { made + 1 + length fields.old.items < 2 ^ 32 }
     ensures { OnOk result (fields.new.items
         ≡ fields.old.items ++ field_of view.now.scenario (bare view.now) made refs.now row.now
         (length fields.old.items)) }
@@ -183,7 +187,7 @@ fn append_field(
     if !row.is_connected {
         return Ok(());
     }
-    let number = number_after(made, fields.len())?;
+    let number = number_after(made, fields.len());
     let held = RefValue {
         object: row.object,
         iface: row.iface,
@@ -194,14 +198,11 @@ fn append_field(
 }
 
 // The number of the packet after so many that were made and so many more.
-fn number_after(made: u32, more: usize) -> Result<u32, Memory>
-    ensures { IfOk result (λ number. number ≡ made + 1 + more) }
+fn number_after(made: u32, more: usize) -> u32
+    requires { made + 1 + more < 2 ^ 32 }
+    ensures { result ≡ made + 1 + more }
 {
-    let more = u32::try_from(more).map_err(|_| AllocError)?;
-    made.checked_add(1)
-        .ok_or(AllocError)?
-        .checked_add(more)
-        .ok_or(AllocError)
+    made + 1 + more as u32
 }
 
 // How many public references the packet at an index is to hold, and 0 past the list's end.
@@ -215,7 +216,7 @@ fn refs_at(refs: &[u32], at: usize) -> u32
 }
 
 // The fields of the packets of references, where so many were made and each is to hold as many as are given.
-#[tactic(auto, using(crate::proofs::Packing::fields_more, crate::proofs::Packing::fields_all))]
+#[tactic(auto, using(crate::proofs::Packing::fields_first, crate::proofs::Packing::fields_more, crate::proofs::Packing::fields_all))]
 fn number_fields(
     view: &View<'_>,
     alloc: Global,
@@ -223,6 +224,7 @@ fn number_fields(
     rows: &[Outgoing],
     refs: &[u32],
 ) -> Result<Vec<StdFields>, Memory>
+    requires { made + length rows.now < 2 ^ 32 }
     ensures { IfOk result (λ fields. fields.items
         ≡ fields_from view.now.scenario (bare view.now) made refs.now rows.now 0) }
 {
@@ -242,6 +244,8 @@ pub fn fields_made<B: Found>(
     lane: u32,
     carried: &[RefValue],
 ) -> Result<Vec<StdFields>, Memory>
+    requires room { HasRoom view.now (B.books books.now) }
+    requires few { length carried.now ≤ PARAMETER_LIMIT }
     ensures { IfOk result (λ fields. fields.items
         ≡ fields_since view.now.scenario (sight_by view.now (B.books books.now))
         (with_packets (sight_by view.now (B.books books.now)) lane

@@ -1,12 +1,15 @@
 //! The entries that send values: the Out of a call, and the Leave of a body.
 
-ghost use Rattle.std.specs.Prelude.{◌≡◌, true, [], Option, Some, IfOk, option_copied};
+ghost use Rattle.std.specs.Prelude.{◌≡◌, ◌≤◌, true, [], All, Option, Some, IfOk, length, option_copied};
 ghost use Rattle.std.specs.Prelude.{if◌then◌else◌};
+ghost use Rattle.com_base.specs.declared.limits.TheConstants.{PARAMETER_LIMIT};
 ghost use Rattle.com_body.specs.declared.actions.Action.{Action};
 ghost use Rattle.com_body.specs.declared.actions.Action.TheVariants as action;
 ghost use Rattle.com_body.specs.declared.operands.Destination.{Destination};
 ghost use Rattle.com_refs_books.specs.Changes.{Books};
 ghost use Rattle.com_classes.specs.Lookups.{method_at};
+ghost use Rattle.com_exchange.specs.Messages.{CanTravel};
+ghost use Rattle.com_exchange.specs.Sent.{ResultCanTravel};
 ghost use Rattle.com_model.specs.declared.deeds.Deed.TheVariants as deed;
 ghost use Rattle.com_model.specs.Calls.{is_marshalled};
 ghost use Rattle.com_model.specs.Deeds.{deed_of, left_as, out_bytes, reply_for};
@@ -111,6 +114,7 @@ fn arguments<B: Found>(
 }
 
 // The request of a call on a route that marshals.
+#[tactic(auto, using(crate::proofs::Sized::carried_few))]
 fn request_with<B: Found>(
     view: &View<'_>,
     books: &B,
@@ -119,6 +123,9 @@ fn request_with<B: Found>(
     cause: u32,
     values: &[Value],
 ) -> Result<Sending, Memory>
+    requires room { HasRoom view.now (B.books books.now) }
+    requires few { length values.now ≤ PARAMETER_LIMIT }
+    requires travel { All CanTravel values.now }
     ensures bytes { IfOk result (λ made. made.bytes
         ≡ out_bytes view.now.scenario (sight_by view.now
         (B.books books.now)) lane Route.Post cause values.now) }
@@ -143,6 +150,9 @@ fn request_on<B: Found>(
     cause: u32,
     values: &[Value],
 ) -> Result<Sending, Memory>
+    requires room { HasRoom view.now (B.books books.now) }
+    requires few { length values.now ≤ PARAMETER_LIMIT }
+    requires travel { All CanTravel values.now }
     ensures bytes { IfOk result (λ made. made.bytes
         ≡ out_bytes view.now.scenario (sight_by view.now (B.books books.now)) lane route cause values.now) }
     ensures carried { IfOk result (λ made. made.carried ≡ (if is_marshalled route
@@ -187,7 +197,7 @@ fn issue_of(
 }
 
 /// The entry of a call, with what goes with it. The values are those that travel on its route, and the
-/// request has their bytes. The only error is want of memory.
+/// request has their bytes. The arguments can travel. The only error is want of memory.
 pub fn call<B: Found>(
     view: &View<'_>,
     books: &B,
@@ -197,6 +207,7 @@ pub fn call<B: Found>(
     args: &[Value],
 ) -> Result<Doing, Memory>
     requires room { HasRoom view.now (B.books books.now) }
+    requires travel { All CanTravel args.now }
     ensures deed { IfOk result (λ made. (to : Destination)
         → made.deed ≡ deed_of view.now.scenario (sight_by view.now (B.books books.now)) lane
         (action.Call callee.now.target callee.now.iface callee.now.method args.now to)) }
@@ -252,6 +263,7 @@ fn reference_in(alloc: Global, value: Option<&Value>) -> Result<Rows<RefValue>, 
 }
 
 // The reply of a body whose call is marshalled and waited for.
+#[tactic(auto, using(crate::proofs::Sized::result_few))]
 fn reply_with<B: Found>(
     view: &View<'_>,
     books: &B,
@@ -260,6 +272,8 @@ fn reply_with<B: Found>(
     answer: HResult,
     value: Option<&Value>,
 ) -> Result<Sending, Memory>
+    requires room { HasRoom view.now (B.books books.now) }
+    requires travels { ResultCanTravel (option_copied value) }
     ensures bytes { IfOk result (λ made. made.bytes
         ≡ reply_for view.now.scenario (sight_by view.now (B.books books.now)) lane true answer
         (option_copied value.entry)) }
@@ -284,6 +298,8 @@ fn reply_on<B: Found>(
     answer: HResult,
     value: Option<&Value>,
 ) -> Result<Sending, Memory>
+    requires room { HasRoom view.now (B.books books.now) }
+    requires travels { ResultCanTravel (option_copied value) }
     ensures bytes { IfOk result (λ made. made.bytes
         ≡ reply_for view.now.scenario (sight_by view.now (B.books books.now)) lane is_wanted answer
         (option_copied value.entry)) }
@@ -317,6 +333,8 @@ fn left_as<B: Found>(
     answer: HResult,
     value: Option<&Value>,
 ) -> Result<Doing, Memory>
+    requires room { HasRoom view.now (B.books books.now) }
+    requires travels { ResultCanTravel (option_copied value) }
     ensures deed { IfOk result (λ made. made.deed
         ≡ left_as view.now.scenario (sight_by view.now (B.books books.now)) lane left.now.call
         (Some left.now.issue) answer (option_copied value.entry)) }
@@ -366,7 +384,7 @@ fn left_bare(alloc: Global, call: u32, answer: HResult) -> Doing
     }
 }
 
-/// The entry of a Leave, with what goes with it. The only error is want of memory.
+/// The entry of a Leave, with what goes with it. The result can travel. The only error is want of memory.
 pub fn leave<B: Found>(
     view: &View<'_>,
     books: &B,
@@ -375,6 +393,8 @@ pub fn leave<B: Found>(
     answer: HResult,
     value: Option<&Value>,
 ) -> Result<Doing, Memory>
+    requires room { HasRoom view.now (B.books books.now) }
+    requires travels { ResultCanTravel (option_copied value) }
     ensures deed { IfOk result (λ made. made.deed
         ≡ deed_of view.now.scenario (sight_by view.now (B.books books.now)) lane (action.Leave answer
         (option_copied value.entry))) }

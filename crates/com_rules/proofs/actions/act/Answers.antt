@@ -1,9 +1,14 @@
-use Rattle.std.proofs.Common.{◌≡◌, List, ap, subst, ◌∙◌}
+use Rattle.std.specs.Prelude.{All, Option}
+use Rattle.std.proofs.Common.{◌≡◌, List, ap, sym, subst, ◌∙◌}
 use Rattle.com_base.specs.declared.value.Value.{Value}
+use Rattle.com_body.specs.declared.actions.Action.{Action}
 use Rattle.com_body.specs.declared.actions.Action.TheVariants as action
+use Rattle.com_exchange.specs.Messages.{CanTravel}
+use Rattle.com_exchange.specs.Sent.{ResultCanTravel}
 use Rattle.com_model.specs.Deeds.{deed_of}
 use Rattle.com_view.specs.Seen.{sight_by}
 use Rattle.com_rules.specs.Acts.{Issues, carried_by}
+use Rattle.com_rules.specs.Fits.{FitsAction}
 use Rattle.com_rules.proofs.actions.act.Goals as goal
 
 pub returns-in_ok-made-in-Call-clause-deed : goal.returns-in_ok-made-in-Call-clause-deed
@@ -33,3 +38,13 @@ returns-in_ok-made-in-Call-clause-carried g c =
     rw c.in-Call.is
     (subst (λ (args : List Value). m.carried ≡ carried_by w.scenario b (action.Call x.target x.iface x.method args x.destination) m.deed) c.as_slice.ensures
     (c.in_ok-made-in-Call.ensures.carried x.destination))
+
+pub call-requires-clause-travel : goal.call-requires-clause-travel
+call-requires-clause-travel g c =
+    let args : All CanTravel c.in-Call.args = subst (λ (x : Action). FitsAction x) c.in-Call.is c.requires.fits in
+    subst (λ (vs : List Value). All CanTravel vs) (sym c.as_slice.ensures) args
+
+pub leave-requires-clause-travels : goal.leave-requires-clause-travels
+leave-requires-clause-travels g c =
+    let result : ResultCanTravel c.in-Leave.value = subst (λ (x : Action). FitsAction x) c.in-Leave.is c.requires.fits in
+    subst (λ (v : Option Value). ResultCanTravel v) (sym c.as_ref.ensures.value) result

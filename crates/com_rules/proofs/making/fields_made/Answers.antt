@@ -1,6 +1,7 @@
 use Rattle.std.specs.List.{AllByRecursion}
 use Rattle.std.specs.Prelude.{map}
-use Rattle.std.proofs.Common.{◌≡◌, ℕ, List, length, sym, ap, subst, ◌∙◌}
+use Rattle.std.proofs.Common.{◌≡◌, ℕ, ◌+◌, ◌<◌, ◌≤◌, ◌^◌, List, length, sym, ap, subst, ◌∙◌, arith}
+use Rattle.std.proofs.lemmas.List.{length-map}
 use Rattle.com_base.specs.declared.value.RefValue.{RefValue}
 use Rattle.com_refs_books.specs.Changes.{marshal_all}
 use Rattle.com_exchange.specs.declared.preview.Outgoing.{Outgoing}
@@ -30,3 +31,16 @@ returns g c =
     ∙ ap (λ (l : List Outgoing). fields_from w.scenario v (length b.packets) refs l 0) rows
     ∙ fields_are w.scenario v a xs refs all (c.in_ok-refs.ensures.packets v.owns b a all)
     ∙ ap (λ (l : List RefValue). fields_since w.scenario v (with_packets v c.args.lane (marshal_all a l))) references
+
+pub number_fields-requires : goal.number_fields-requires
+number_fields-requires g c =
+    let b = g.B.References.books c.args.books.now in
+    let rows : c.as_slice-2.result.now ≡ c.in_ok-rows.rows.items = c.as_slice-2.ensures.value in
+    let references : map reference_of c.in_ok-rows.rows.items ≡ c.args.carried.now = c.in_ok-rows.ensures.references in
+    let mapped : length (map reference_of c.in_ok-rows.rows.items) ≡ length c.args.carried.now = ap length references in
+    let many = length-map c.in_ok-rows.rows.items reference_of in
+    let few : length c.args.carried.now ≤ 4 = c.requires.few in
+    let room : length b.packets + 4 < 2 ^ 32 = c.requires.room.packets in
+    let made : c.packets.result ≡ length b.packets = c.packets.ensures in
+    let size : length c.as_slice-2.result.now ≡ length c.in_ok-rows.rows.items = ap length rows in
+    omega (arith, few, room, made, size, mapped, many)

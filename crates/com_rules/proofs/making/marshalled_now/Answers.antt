@@ -24,10 +24,10 @@ returns g c =
     let k : ℕ = refs_made m (v.owns o a) (b.proxy a o i) in
     let n : ℕ = length b.packets + 1 in
     let refs : c.refs_made-refs.result ≡ k =
-    c.refs_made-refs.ensures ∙ ap (λ (t : Bool). refs_made m t c.in_ok-public.field-0) c.owns-is_owned.ensures
-    ∙ ap (λ (x : ℕ). refs_made m (v.owns o a) x) c.in_ok-public.ensures in
+    c.refs_made-refs.ensures ∙ ap (λ (t : Bool). refs_made m t c.public.result) c.owns-is_owned.ensures
+    ∙ ap (λ (x : ℕ). refs_made m (v.owns o a) x) c.public.ensures in
     c.in_ok-deed.ensures
-    ∙ ap (λ (f : StdFields). deed.Marshal (Some c.in_ok-number.number) m (Some c.args.held) c.refs_made-refs.result S_OK (Some (written_of f))) (c.fields_as-fields.ensures b)
-    ∙ ap (λ (x : ℕ). deed.Marshal (Some x) m (Some c.args.held) c.refs_made-refs.result S_OK (Some (written_of (packet_fields w.scenario v (new_packet m o i c.refs_made-refs.result) x)))) c.in_ok-number.ensures
+    ∙ ap (λ (f : StdFields). deed.Marshal (Some c.next_packet-number.result) m (Some c.args.held) c.refs_made-refs.result S_OK (Some (written_of f))) (c.fields_as-fields.ensures b)
+    ∙ ap (λ (x : ℕ). deed.Marshal (Some x) m (Some c.args.held) c.refs_made-refs.result S_OK (Some (written_of (packet_fields w.scenario v (new_packet m o i c.refs_made-refs.result) x)))) c.next_packet-number.ensures
     ∙ ap (λ (x : ℕ). deed.Marshal (Some n) m (Some c.args.held) x S_OK (Some (written_of (packet_fields w.scenario v (new_packet m o i x) n)))) refs
-    ∙ ap (λ (p : Packet). deed.Marshal (Some n) m (Some c.args.held) p.refs S_OK (Some (written_of (packet_fields w.scenario v p n)))) (sym (one_made v.owns b a o i m c.requires))
+    ∙ ap (λ (p : Packet). deed.Marshal (Some n) m (Some c.args.held) p.refs S_OK (Some (written_of (packet_fields w.scenario v p n)))) (sym (one_made v.owns b a o i m c.requires.live))

@@ -20,8 +20,8 @@ returns-in-Some g c = λ buffer.
     c.refused_marshal_deed.ensures w.scenario v c.args.lane
     ∙ ap (λ (r : Option HResult). marshalled w.scenario v c.args.lane c.args.mode c.args.held r) (sym so)
 
-pub marshalled_now-requires : goal.marshalled_now-requires
-marshalled_now-requires g c =
+pub marshalled_now-requires-clause-live : goal.marshalled_now-requires-clause-live
+marshalled_now-requires-clause-live g c =
     let b = g.B.References.books c.args.books.now in
     let v = sight_by c.args.view.now b in
     let x = c.is_connected-is_live.result in

@@ -1,5 +1,7 @@
-use Rattle.std.proofs.Common.{◌≡◌, ℕ, ◌+◌, Bool, true, List, Option, length, ap, ◌∙◌}
+use Rattle.std.specs.Prelude.{All}
+use Rattle.std.proofs.Common.{◌≡◌, ℕ, ◌+◌, ◌≤◌, Bool, true, List, Option, length, ap, sym, subst, ◌∙◌, arith}
 use Rattle.com_base.specs.declared.hresult.HResult.{HResult}
+use Rattle.com_base.specs.declared.value.Kind.{Kind}
 use Rattle.com_base.specs.declared.value.Value.{Value}
 use Rattle.com_classes.specs.Lookups.{method_at}
 use Rattle.com_model.specs.declared.deeds.Deed.TheVariants as deed
@@ -12,6 +14,8 @@ use Rattle.com_model.specs.Values.{sent_values}
 use Rattle.com_view.specs.Seen.{Seen, sight_by, home_seen, running_seen}
 use Rattle.com_rules.specs.Acts.{route_or}
 use Rattle.com_rules.proofs.Outs.{called_on, bytes_on}
+use Rattle.com_exchange.specs.Messages.{CanTravel}
+use Rattle.com_rules.proofs.Sized.{sent_can, sent_length}
 use Rattle.com_rules.proofs.sending.call.Goals as goal
 
 pub returns-clause-deed : goal.returns-clause-deed
@@ -43,3 +47,21 @@ returns-clause-deed g c = λ to.
     ∙ ap (λ (x : ℕ). deed.Out (v.calls + 1) o i m r x (out_bytes s v l r x vs)) c.next_cause-cause.ensures
     ∙ ap (λ (x : Route). deed.Out (v.calls + 1) o i m x (next_cause v l) (out_bytes s v l x (next_cause v l) vs)) route
     ∙ called_on w b l c.args.callee.now.target i m c.args.args.now refused
+
+pub request_on-requires-clause-few : goal.request_on-requires-clause-few
+request_on-requires-clause-few g c =
+    let b = g.B.References.books c.args.books.now in
+    let i = c.args.callee.now.iface in
+    let m = c.args.callee.now.method in
+    let kinds : List Kind = parameters (method_at c.args.view.now.scenario.classes i m) in
+    let values : c.as_slice.result.now ≡ sent_values c.is_marshalled.result b.live kinds c.args.args.now = c.as_slice.ensures ∙ c.in_ok-values.ensures in
+    let size : length c.as_slice.result.now ≡ length kinds = ap length values ∙ sent_length c.is_marshalled.result b.live kinds c.args.args.now in
+    let few : length kinds ≤ 4 = c.requires.room.few i m in
+    omega (arith, size, few)
+
+pub request_on-requires-clause-travel : goal.request_on-requires-clause-travel
+request_on-requires-clause-travel g c =
+    let b = g.B.References.books c.args.books.now in
+    let kinds : List Kind = parameters (method_at c.args.view.now.scenario.classes c.args.callee.now.iface c.args.callee.now.method) in
+    let values : c.as_slice.result.now ≡ sent_values c.is_marshalled.result b.live kinds c.args.args.now = c.as_slice.ensures ∙ c.in_ok-values.ensures in
+    subst (λ (vs : List Value). All CanTravel vs) (sym values) (sent_can c.is_marshalled.result b.live kinds c.args.args.now c.requires.travel)

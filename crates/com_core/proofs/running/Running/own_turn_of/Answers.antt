@@ -41,4 +41,6 @@ pub own_turn-requires-clause-acts : goal.own_turn-requires-clause-acts
 own_turn-requires-clause-acts c =
     let s = c.args.scenario.now in
     let r = c.args.self.now in
-    subst (λ (w : Seen). ActsFit w) (sym c.view-view.ensures.value) (acts_seen (seen_by s r.parts r.fallen.objects r.clock) c.requires.core.reached.formed)
+    let b = books_held r.ledger in
+    subst (λ (w : Seen). ActsFit w) (sym c.view-view.ensures.value)
+    (acts_seen s (state_read s r.parts b r.fallen.objects r.clock) r.parts b r.fallen.objects r.clock c.requires.core.reached c.requires.core.stands)

@@ -42,7 +42,9 @@ pub next_turn-requires-clause-acts : goal.next_turn-requires-clause-acts
 next_turn-requires-clause-acts g c =
     let s = c.args.scenario.now in
     let r = c.args.self.now in
-    subst (λ (w : Seen). ActsFit w) (sym c.view-view.ensures.value) (acts_seen (seen_by s r.parts r.fallen.objects r.clock) c.requires.core.reached.formed)
+    let b = books_held r.ledger in
+    subst (λ (w : Seen). ActsFit w) (sym c.view-view.ensures.value)
+    (acts_seen s (state_read s r.parts b r.fallen.objects r.clock) r.parts b r.fallen.objects r.clock c.requires.core.reached c.requires.core.stands)
 
 pub next_turn-requires-clause-works : goal.next_turn-requires-clause-works
 next_turn-requires-clause-works g c =

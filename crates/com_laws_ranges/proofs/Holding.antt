@@ -1,5 +1,5 @@
--- How many public references there are after so many entries: no more than twenty for each.
-use Rattle.std.proofs.Common.{subst, sym, ap, eqb-true, arith}
+-- How many public references a stub counts and a proxy has after so many entries: no more than twenty for each.
+use Rattle.std.proofs.Common.{subst, sym, ap, ◌∙◌, eqb-true, arith}
 use Rattle.std.proofs.lemmas.Bool.{ltb-true, ltb-false}
 use Rattle.std.proofs.lemmas.Grind.{common_steps}
 use Rattle.std.specs.Prelude.{◌≡◌, refl, ℕ, zero, suc, ◌+◌, ◌-◌, ◌*◌, ◌/◌, ◌≤◌, ◌<◌, pos, Bool, true, false, cond, not, ◌==◌, ◌&&◌, nat_le, nat_lt, List, [], ◌∷◌, length, map, Option, Some, None}
@@ -29,10 +29,31 @@ use Rattle.com_model.proofs.Fines.{cond-is}
 use Rattle.com_model.proofs.Kept.{legal-kept}
 use Rattle.com_laws_safety.proofs.Small.{and-left, and-right}
 use Rattle.com_laws_balance.proofs.Balances.{legal-balanced}
-use Rattle.com_laws_ranges.proofs.Numbers.{out-few}
-use Rattle.com_laws_messages.proofs.Fields.{FewHeld}
-use Rattle.com_laws_messages.proofs.Sending.{carried-few, one-result}
-use Rattle.com_laws_messages.proofs.Requests.{rows-keep}
+use Rattle.com_laws_ranges.proofs.Numbers.{out-few, carried-few, result-few}
+
+-- ---- rows leave which packets are a call's
+
+pub record SameOwners (b c : Books) : Type 0 where
+  pub arguments : c.arguments ≡ b.arguments
+  pub result : c.result ≡ b.result
+
+change-keeps : (b : Books) (c : Change) → SameOwners b (changed b c)
+change-keeps b (ToProxy x y z m) = record { arguments = refl; result = refl }
+change-keeps b (ToPacket m x y r) = record { arguments = refl; result = refl }
+change-keeps b (Split x y z m) = record { arguments = refl; result = refl }
+change-keeps b (Join x q) = record { arguments = refl; result = refl }
+change-keeps b (Return q) = record { arguments = refl; result = refl }
+change-keeps b (ToCookie x y m) = record { arguments = refl; result = refl }
+change-keeps b (Withdraw g) = record { arguments = refl; result = refl }
+change-keeps b Same = record { arguments = refl; result = refl }
+
+pub rows-keep : (owned : ℕ → ℕ → Bool) (b : Books) (rs : List Row) → SameOwners b (entered_rows owned b rs)
+rows-keep owned b [] = record { arguments = refl; result = refl }
+rows-keep owned b (r ∷ rs) =
+    let c : Books = changed b (change owned b r) in
+    let x : SameOwners b c = change-keeps b (change owned b r) in
+    let y : SameOwners c (entered_rows owned c rs) = rows-keep owned c rs in
+    record { arguments = y.arguments ∙ x.arguments; result = y.result ∙ x.result }
 
 -- ---- the stubs gain five with a row
 
@@ -167,7 +188,7 @@ less-than : (x y n : ℕ) → x ≤ n → x - y ≤ n
 less-than x y n h = omega (arith, h)
 
 one-listed : (v : Option Value) → length (carried (result_list v)) ≤ 4
-one-listed v = let f : length (carried (result_list v)) ≤ length (result_list v) = carried-few (result_list v) in let g : length (result_list v) ≤ 1 = one-result v in omega (arith, f, g)
+one-listed v = let f : length (carried (result_list v)) ≤ length (result_list v) = carried-few (result_list v) in let g : length (result_list v) ≤ 4 = result-few v in omega (arith, f, g)
 
 cut-less : (t : Bool) (x n : ℕ) → x ≤ n → cond t x 0 ≤ n
 cut-less true x n h = h
@@ -220,15 +241,12 @@ balanced : (s : Scenario) (h : List Entry) → legal s h → Balanced s h
 balanced s [] q = legal-balanced s [] q
 balanced s (e ∷ h) q = (legal-balanced s (e ∷ h) q).1
 
-pub held-few : (s : Scenario) (h : List Entry) → Formed s → legal s h → FewHeld (20 * length h + 5) (books s h)
-held-few s h f q = record { five = omega arith; proxies = few }
-  where
-    few : (a o i : ℕ) → (books s h).proxy a o i ≤ 20 * length h + 5
-    few a o i =
-        let b : Books = books s h in
-        let z : b.stub o i ≤ 20 * length h = (legal-few s h f).stubs o i in
-        let e : b.stub o i ≡ held (apartments h) b o i = balanced s h q o i in
-        elim (nat_lt a (next_sta h)) as (λ t. nat_lt a (next_sta h) ≡ t → b.proxy a o i ≤ 20 * length h + 5) [
-          | true ↦ λ u. let y : b.proxy a o i ≤ sum_below (next_sta h) (λ x. b.proxy x o i) = summed (next_sta h) a (λ x. b.proxy x o i) (ltb-true a (next_sta h) u) in omega (arith, y, z, e)
-          | false ↦ λ u. let y : b.proxy a o i ≡ 0 = (legal-kept s h f q).books.proxy_a a o i (ltb-false a (next_sta h) u) in omega (arith, y)
-        ] refl
+pub proxies-few : (s : Scenario) (h : List Entry) → Formed s → legal s h → (a o i : ℕ) → (books s h).proxy a o i ≤ 20 * length h
+proxies-few s h f q a o i =
+    let b : Books = books s h in
+    let z : b.stub o i ≤ 20 * length h = (legal-few s h f).stubs o i in
+    let e : b.stub o i ≡ held (apartments h) b o i = balanced s h q o i in
+    elim (nat_lt a (next_sta h)) as (λ t. nat_lt a (next_sta h) ≡ t → b.proxy a o i ≤ 20 * length h) [
+      | true ↦ λ u. let y : b.proxy a o i ≤ sum_below (next_sta h) (λ x. b.proxy x o i) = summed (next_sta h) a (λ x. b.proxy x o i) (ltb-true a (next_sta h) u) in omega (arith, y, z, e)
+      | false ↦ λ u. let y : b.proxy a o i ≡ 0 = (legal-kept s h f q).books.proxy_a a o i (ltb-false a (next_sta h) u) in omega (arith, y)
+    ] refl
