@@ -14,6 +14,7 @@ pub mod Readings
 pub mod Moved
 pub mod Ticking
 pub mod Turned
+pub mod ByRules
 pub mod Tied
 pub mod Booking
 pub mod Shown

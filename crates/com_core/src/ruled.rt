@@ -9,6 +9,7 @@ ghost use Rattle.com_core.specs.Stands.{seen_by};
 ghost use Rattle.com_ledger.specs.Ties.{Ties};
 ghost use Rattle.com_model.specs.Ends.{limit};
 ghost use Rattle.com_model.specs.Tables.{lanes};
+ghost use Rattle.com_reference_moves.specs.Steps.{IsWhole};
 ghost use Rattle.com_refs_rows.specs.Books.{books_held};
 ghost use Rattle.com_runtime.specs.Standings.{can_step_in};
 ghost use Rattle.com_turns.specs.Turns.{IsNext, IsTurn, is_ruled, ruled_turn, turn_made};
@@ -59,7 +60,7 @@ impl Running {
         step: &mut Option<Outcome>,
         entry: &Entry,
     ) -> Result<(), Memory>
-        requires none { step.old ≡ None }
+        requires whole { IsWhole step.old }
         requires sound { Sound self.old.parts self.old.entered.counts }
         requires few { Few self.old.parts }
         requires core { IsWholeCore (kept_of scenario.now self.old) }
@@ -69,7 +70,7 @@ impl Running {
         requires named { IsNamed self.old.parts.objects self.old.parts.calls }
         requires room { self.old.parts.entries < limit scenario.now }
         requires turn { IsTurn (seen_by scenario.now self.old.parts self.old.fallen.objects self.old.clock)
-            (books_held self.old.ledger) entry.now.lane None (ruled_turn entry.now.deed) }
+            (books_held self.old.ledger) entry.now.lane step.old (ruled_turn entry.now.deed) }
         ensures few { Few self.new.parts }
         ensures sound { Sound self.new.parts self.new.entered.counts }
         ensures next { OnOk result (TurnsTo scenario.now entry.now.lane self.old self.new entry.now) }
@@ -81,6 +82,7 @@ impl Running {
     /// Tries a lane in which neither a body nor a script acts: makes its next entry, in the place of the entry
     /// before it, where the rules give it one; else nothing has changed. Whether it did. The only error is want of
     /// memory.
+    #[tactic(auto, using(crate::proofs::Shown::as_before))]
     pub fn step_by_rule(
         &mut self,
         scenario: &Scenario,

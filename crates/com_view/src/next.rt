@@ -136,6 +136,7 @@ impl<'a> View<'a> {
     }
 
     // Whether a rule gives an entry to a lane, where no Final comes first, by what is innermost in it.
+    #[inline(always)]
     fn stirs(&self, lane: u32) -> bool
         ensures { result ≡ stirs (bare self.now) (lane_sort self.now.scenario lane) lane
             (top (bare self.now) lane) }
@@ -148,7 +149,9 @@ impl<'a> View<'a> {
         }
     }
 
-    /// Whether one of the rules gives the lane an entry. What is innermost in a lane says which of them can.
+    /// Whether one of the rules gives the lane an entry. What is innermost in a lane says which of them can. It is
+    /// asked of each lane that waits.
+    #[inline(always)]
     #[tactic(auto, using(crate::proofs::ByTop::ruled_final, crate::proofs::ByTop::ruled_stirs))]
     pub fn has_entry(&self, lane: u32) -> bool
         ensures { (b : Books) → result ≡ is_some (ruled self.now.scenario (sight_by self.now b) lane) }

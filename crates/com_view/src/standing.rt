@@ -11,7 +11,8 @@ use crate::view::View;
 use com_model::Phase;
 
 impl<'a> View<'a> {
-    /// Whether a lane makes an entry.
+    /// Whether a lane makes an entry. It is asked of each lane that waits.
+    #[inline(always)]
     pub fn can_step(&self, lane: u32) -> bool
         ensures { (b : Books) → result ≡ can_step self.now.scenario (sight_by self.now b) lane }
     {
