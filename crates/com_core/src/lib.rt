@@ -6,7 +6,8 @@
 //! want no memory. So an entry that finds none changes nothing.
 //!
 //! An entry that moves no reference, has no row in the books, and begins and ends no body, is spared the moves,
-//! the search for dying objects, and all of the books but the row of a new call.
+//! the search for dying objects, and all of the books but the row of a new call. One that changes nothing but the
+//! calls, and that nobody's step makes, is spared the rest of the parts too.
 #![tactic(auto)]
 
 mod changing;

@@ -44,12 +44,21 @@ fn no_bodies(alloc: Global) -> Result<Entered, Memory>
     Ok(entered)
 }
 
+// Forgets a step. It has a function of its own, since a step is wide.
+#[inline(never)]
+fn drop_step(step: &mut Option<Outcome>)
+    ensures { step.new ≡ None }
+{
+    *step = None;
+}
+
 /// Forgets a step, where there is one. `None` is written only then: it is as wide as a step.
+#[inline(always)]
 pub fn forget(step: &mut Option<Outcome>)
     ensures { step.new ≡ None }
 {
     if step.is_some() {
-        *step = None;
+        drop_step(step);
     }
 }
 

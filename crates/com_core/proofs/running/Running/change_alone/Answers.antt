@@ -1,8 +1,8 @@
 -- What holds of a core after an entry that changes nothing but the calls, and that nobody's step makes.
-use Rattle.std.proofs.Common.{◌≡◌, List, [], All, refl, ap, ◌∙◌, subst, sym}
+use Rattle.std.proofs.Common.{List, All, refl, subst, sym}
 use Rattle.std.specs.Prelude.{None}
-use Rattle.com_ledger.specs.Quiet.{LeavesBooks, calls_passed}
-use Rattle.com_model.specs.Frames.{Actor, Nobody}
+use Rattle.com_ledger.specs.Quiet.{LeavesBooks}
+use Rattle.com_model.specs.Frames.{Nobody}
 use Rattle.com_model.specs.Lists.{number_or_zero}
 use Rattle.com_model.specs.State.{SceneTables}
 use Rattle.com_laws_places.specs.Moves.{Moves}
@@ -10,10 +10,8 @@ use Rattle.com_reference_moves.specs.Steps.{moves_stepped}
 use Rattle.com_reference_moves.specs.Tables.{ground_at}
 use Rattle.com_refs.specs.Counts.{holders_of}
 use Rattle.com_refs_rows.specs.declared.calls.CallPackets.{CallPackets}
-use Rattle.com_refs_rows.specs.Books.{Held}
 use Rattle.com_refs_rows.specs.Entries.{Around, around}
 use Rattle.com_scene.specs.Kept.{HasSlots}
-use Rattle.com_core.specs.Making.{Booked}
 use Rattle.com_core.specs.Quiet.{Still}
 use Rattle.com_core.proofs.Made.{becomes_alone}
 use Rattle.com_core.proofs.Quiet.{alone_still, still_booked, still_entry, still_most, still_settles}
