@@ -1,10 +1,11 @@
 -- What is answered, from what the calls below answer.
-use Rattle.std.proofs.Common.{◌≡◌, ℕ, inl, inr, List, [], ap, sym, subst, ◌∙◌, drop, Option}
+use Rattle.std.proofs.Common.{◌≡◌, ℕ, ◌<◌, ◌≤◌, ◌^◌, inl, inr, List, [], length, ap, sym, subst, ◌∙◌, arith, drop, Option}
 use Rattle.com_check.specs.declared.agreement.traces.Agreed.{Agreed}
 use Rattle.com_check.specs.declared.agreement.traces.Trace.{Trace}
 use Rattle.com_check.specs.declared.agreement.traces.Trace.TheVariants as traces
 use Rattle.com_check.specs.Agreeing.{IsAgreed, IsOther, IsRead}
 use Rattle.com_check.specs.declared.judged.Judged.{Judged}
+use Rattle.com_check.proofs.Agreeing.{agreed_few}
 use Rattle.com_check.specs.Judging.{IsJudged, judged_text}
 use Rattle.com_commands.specs.declared.statuses.Status.{Status}
 use Rattle.com_commands.specs.declared.statuses.Status.TheVariants as status
@@ -12,7 +13,7 @@ use Rattle.com_commands.specs.Statuses.{Says, status_at}
 use Rattle.com_deliveries.specs.declared.Delivery.{Delivery}
 use Rattle.com_deliveries.specs.Delivered.{AreDeliveries}
 use Rattle.com_model.specs.declared.scenario.Scenario.{Scenario}
-use Rattle.com_model.specs.Ends.{scheduled}
+use Rattle.com_model.specs.Ends.{limit, scheduled}
 use Rattle.com_command_check.specs.declared.questions.Question.{Question}
 use Rattle.com_waits.specs.Chains.{explanation_of}
 use Rattle.com_waits.specs.declared.reasons.Waits.{Waits}
@@ -20,6 +21,7 @@ use Rattle.com_command_draw.specs.declared.beginning.Begun.{Begun}
 use Rattle.com_command_draw.specs.Begun.{IsBegun}
 use Rattle.com_command_draw.specs.Pages.{ArePointsDrawn, IsDrawn, page_of}
 use Rattle.com_command_draw.specs.Traces.{IsTraceAnswer, IsTraceDrawn, IsTraceRefuted}
+use Rattle.com_command_draw.proofs.Passing.{limit_few}
 
 -- What the end of a page answers.
 abbrev pub Draws : Begun → Option Waits → List Delivery → List ℕ → Type 0
@@ -66,6 +68,13 @@ drawn_trace q a text is draws = record {
 -- What was read of a trace, where it is known what it is.
 pub agreed_of : (s : Scenario) (trace : List ℕ) (t : Trace) (a : Agreed) → t ≡ traces.Agrees a → IsRead s trace t → IsAgreed s trace a
 agreed_of s trace t a is read = subst (λ (y : Trace). IsRead s trace y) is read
+
+-- An agreed trace has few entries.
+pub agreed_short : (s : Scenario) (trace : List ℕ) (t : Trace) (a : Agreed) → t ≡ traces.Agrees a → IsRead s trace t → length a.history < 2 ^ 31
+agreed_short s trace t a is read =
+    let few : length a.history ≤ limit s = agreed_few s trace a (agreed_of s trace t a is read) in
+    let most : limit s ≤ 1_000_000 = limit_few s in
+    omega (arith, few, most)
 
 pub differs_of : (s : Scenario) (trace : List ℕ) (t : Trace) (j : Judged) → t ≡ traces.Differs j → IsRead s trace t → IsJudged s trace j × IsOther j
 differs_of s trace t j is read = subst (λ (y : Trace). IsRead s trace y) is read

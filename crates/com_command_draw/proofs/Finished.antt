@@ -33,14 +33,14 @@ use Rattle.com_command_draw.specs.Pages.{page_of}
 -- What is answered for entries that are looked at.
 abbrev pub Explains : Scenario → List Entry → Ended → Option Waits → Type 0
 Explains s entries x w =
-    Formed s → legal s (reverse entries) → ended_as s (reverse entries) ≡ Some x → w ≡ explanation_of s (reverse entries)
+    legal s (reverse entries) → ended_as s (reverse entries) ≡ Some x → w ≡ explanation_of s (reverse entries)
 
 pub explained_at : (s seen : Scenario) (entries slice : List Entry) (x : Ended) (w : Option Waits)
-    → seen ≡ s → slice ≡ entries → Formed s → IsRecorded s entries x → Explains seen slice x w → w ≡ explanation_of s (scheduled s)
-explained_at s seen entries slice x w is_seen is_slice f r explains =
+    → seen ≡ s → slice ≡ entries → IsRecorded s entries x → Explains seen slice x w → w ≡ explanation_of s (scheduled s)
+explained_at s seen entries slice x w is_seen is_slice r explains =
     let own : Explains s entries x w =
     subst (λ (y : Scenario). Explains y entries x w) is_seen (subst (λ (es : List Entry). Explains seen es x w) is_slice explains) in
-    own f r.lawful r.ended_is ∙ ap (λ (h : List Entry). explanation_of s h) r.history
+    own r.lawful r.ended_is ∙ ap (λ (h : List Entry). explanation_of s h) r.history
 
 -- ---- the page that was begun
 
@@ -65,17 +65,17 @@ ended_page s b w events text is begun explains =
 -- ---- the page of an agreed trace
 
 pub agreed_page : (s : Scenario) (a : Agreed) (slice seen : List Entry) (w : Option Waits) (events : List Delivery) (old text : List ℕ)
-    → slice ≡ a.history → seen ≡ a.history → old ≡ [] → Formed s → Explains s slice a.ended w → events ≡ []
+    → slice ≡ a.history → seen ≡ a.history → old ≡ [] → Explains s slice a.ended w → events ≡ []
     → text ≡ old ++ page s (reverse seen) (record { counts = a.counts; clock = a.clock; ended = a.ended; waits = w; events = events })
     → (trace : List ℕ) (is : IsAgreed s trace a) → text ≡ page_of s is.text.history a.ended []
 unfolding page_of
-agreed_page s a slice seen w events old text is_slice is_seen empty f explains none writes trace is =
+agreed_page s a slice seen w events old text is_slice is_seen empty explains none writes trace is =
     let h : List Entry = is.text.history in
     let told : reverse slice ≡ h = ap (λ (es : List Entry). reverse es) is_slice ∙ is.history in
     let lawful : legal s (reverse slice) = subst (λ (y : List Entry). legal s y) (sym told) is.text.lawful in
     let ends : ended_as s (reverse slice) ≡ Some a.ended = ap (λ (y : List Entry). ended_as s y) told ∙ is.ended in
     let shown : reverse seen ≡ h = ap (λ (es : List Entry). reverse es) is_seen ∙ is.history in
-    let waits : w ≡ explanation_of s h = explains f lawful ends ∙ ap (λ (y : List Entry). explanation_of s y) told in
+    let waits : w ≡ explanation_of s h = explains lawful ends ∙ ap (λ (y : List Entry). explanation_of s y) told in
     writes
     ∙ ap (λ (t : List ℕ). t ++ page s (reverse seen) (record { counts = a.counts; clock = a.clock; ended = a.ended; waits = w; events = events })) empty
     ∙ ap (λ (y : List Entry). page s y (record { counts = a.counts; clock = a.clock; ended = a.ended; waits = w; events = events })) shown

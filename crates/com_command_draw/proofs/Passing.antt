@@ -16,8 +16,9 @@ use Rattle.com_replay.specs.Recorded.{IsRecorded}
 use Rattle.com_replay.proofs.Recording.{Recording, recording_ends, recording_goes_on, recording_reached, recording_smaller, recording_starts, recording_within}
 use Rattle.com_draw.specs.Entries.{after, drawn, entry_text}
 use Rattle.com_draw.specs.Pages.{written}
-use Rattle.com_draw.specs.Pictures.{Picture}
+use Rattle.com_draw.specs.Pictures.{Picture, depth_in}
 use Rattle.com_draw.proofs.Counted.{drawn_entries}
+use Rattle.com_draw.proofs.Depths.{IsShallow, drawn_shallow, has_room}
 use Rattle.com_command_draw.specs.declared.beginning.Begun.{Begun}
 use Rattle.com_command_draw.specs.Begun.{IsBegun}
 
@@ -97,18 +98,29 @@ pub passing_reached : (s : Scenario) (st : State) (picks : List ℕ) (last : ℕ
     → Formed s → Passing s st picks last d text is_kept kept → Reached s st
 passing_reached s st picks last d text is_kept kept f p = recording_reached s st picks last p.entries f p.recording
 
-limit_few : (s : Scenario) → limit s ≤ 1_000_000
+pub limit_few : (s : Scenario) → limit s ≤ 1_000_000
 limit_few s = elim (s.version == 2) as (λ b. cond b 1_000_000 200_000 ≤ 1_000_000) [ true ↦ omega arith | false ↦ omega arith ]
 
-few : (m k l n : ℕ) → m + k ≡ l → l ≤ 1_000_000 → n ≡ k → n < 2 ^ 63
+few : (m k l n : ℕ) → m + k ≡ l → l ≤ 1_000_000 → n ≡ k → n ≤ 1_000_000
 few m k l n c b e = omega (arith, c, b, e)
+
+passing_few : (s : Scenario) (st : State) (picks : List ℕ) (last : ℕ) (d : Picture) (text : List ℕ) (is_kept : Bool) (kept : List Entry)
+    → Passing s st picks last d text is_kept kept → d.entries ≤ 1_000_000
+passing_few s st picks last d text is_kept kept p =
+    few p.recording.more (length p.recording.history) (limit s) d.entries p.recording.count (limit_few s)
+    (ap (λ (x : Picture). x.entries) p.drawn_is ∙ drawn_entries s (reverse p.entries) ∙ ap (λ (h : List Entry). length h) p.recording.is)
 
 -- The drawing has room for one entry more.
 pub passing_room : (s : Scenario) (st : State) (picks : List ℕ) (last : ℕ) (d : Picture) (text : List ℕ) (is_kept : Bool) (kept : List Entry)
     → Passing s st picks last d text is_kept kept → d.entries < 2 ^ 63
-passing_room s st picks last d text is_kept kept p =
-    few p.recording.more (length p.recording.history) (limit s) d.entries p.recording.count (limit_few s)
-    (ap (λ (x : Picture). x.entries) p.drawn_is ∙ drawn_entries s (reverse p.entries) ∙ ap (λ (h : List Entry). length h) p.recording.is)
+passing_room s st picks last d text is_kept kept p = let k : d.entries ≤ 1_000_000 = passing_few s st picks last d text is_kept kept p in omega (arith, k)
+
+-- It has room for one more in each lane.
+pub passing_depth : (s : Scenario) (st : State) (picks : List ℕ) (last : ℕ) (d : Picture) (text : List ℕ) (is_kept : Bool) (kept : List Entry) (l : ℕ)
+    → Passing s st picks last d text is_kept kept → depth_in d l + 1 < 2 ^ 31
+passing_depth s st picks last d text is_kept kept l p =
+    let k : d.entries ≤ 1_000_000 = passing_few s st picks last d text is_kept kept p in
+    has_room d l (subst IsShallow (sym p.drawn_is) (drawn_shallow s (reverse p.entries))) (omega (arith, k))
 
 -- ---- the end
 

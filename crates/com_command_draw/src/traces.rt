@@ -1,5 +1,5 @@
 //! The page of the history that a trace is.
-ghost use Rattle.std.specs.Prelude.{◌≡◌, [], IfOk, List, ℕ};
+ghost use Rattle.std.specs.Prelude.{◌≡◌, ◌<◌, ◌^◌, [], IfOk, List, ℕ, length};
 ghost use Rattle.std.proofs.Common.{lit<};
 ghost use Rattle.com_check.specs.Agreeing.{IsAgreed};
 ghost use Rattle.com_check.specs.Judging.{judged_text};
@@ -58,9 +58,10 @@ impl ReplyingCommand for TracePage {
     ghost concludes = { trace_concludes };
 }
 
-// The page of the history that an agreed trace is. The only error is want of memory.
+// The page of the history that an agreed trace is, of fewer than 2^31 entries. The only error is want of memory.
 fn draw_agreed(alloc: Global, scenario: &Scenario, agreed: Agreed) -> Result<ByteList, Memory>
-    requires { Formed scenario.now }
+    requires formed { Formed scenario.now }
+    requires few { length agreed.history < 2 ^ 31 }
     ensures { IfOk result (λ page. (trace : List ℕ) (is : IsAgreed scenario.now trace agreed)
         → page ≡ page_of scenario.now is.text.history agreed.ended []) }
 {

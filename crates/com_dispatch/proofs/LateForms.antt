@@ -42,6 +42,8 @@ use Rattle.com_laws_scenario.proofs.Words.{lines_formed}
 use Rattle.com_scenario.proofs.Standing.{so_far, AtBody, AtThread, Stands, StandsAt, body_declares, script_declares}
 use Rattle.com_scenario.proofs.Steps.{step_stands}
 use Rattle.com_scenario.proofs.Forms.{IsOutline, begun_stands, finish_formed}
+use Rattle.com_read_sections.specs.declared.outline.Outline.{Outline}
+use Rattle.com_dispatch.specs.declared.outcomes.Binding.{Binding}
 use Rattle.com_dispatch.specs.declared.outcomes.Late.{Late}
 use Rattle.com_dispatch.specs.Late.{Reading, Coding, invoke_line, other_line, in_section, is_invoke, late_step, LateOutline, late_finish, late_read, late_begun, late_of, late}
 use Rattle.com_dispatch.proofs.Given.{IsGiven, IsInvoked, invoked}
@@ -97,7 +99,7 @@ stands_fits s x tables i same h = stands_by s x tables i (bound_among (methods_o
 
 -- ---- a line
 
-abbrev StandsRead : Reading → Type 0
+abbrev pub StandsRead : Reading → Type 0
 StandsRead r = Stands r.state
 
 -- the statements of a body or a script, with one that an `invoke` stands for
@@ -158,7 +160,8 @@ invoke_stands r w line (sections.Body c head code) ws h k = body_stands r c head
 invoke_stands r w line (sections.Filter rules) ws h k = other_stands r line ws h
 invoke_stands r w line (sections.Thread code) ws h k = thread_stands r code w line ws k
 
-late_stands : (r : Reading) (line : List WordAt) → All IsWord line → Stands r.state → Holds StandsRead (late_step r line)
+-- what was read stands behind a line
+pub late_stands : (r : Reading) (line : List WordAt) → All IsWord line → Stands r.state → Holds StandsRead (late_step r line)
 unfolding late_step
 late_stands r [] ws h = other_stands r [] ws h
 late_stands r (w ∷ vs) ws h = either (is_invoke w) _ _
@@ -180,6 +183,14 @@ read_formed [] r ws h = fails _
 read_formed (l ∷ ls) r ws h = bind (late_step r l.words) _ (late_stands r l.words (All-head IsLine l ls ws) h) (λ next k. either l.last _ _
     (λ _. late_finish_formed next l.line l.column k)
     (λ _. read_formed ls next (All-tail IsLine l ls ws) k))
+
+-- the outline that was read
+pub outline_formed : (text : List ℕ) (tables : List Interface) (outline : Outline) (bindings : List Binding) → tables ≡ built_in_interfaces
+    → late_read (late_begun tables) (lines_of text) ≡ Ok (record { outline = outline; bindings = bindings }) → Formed (scenario_of outline)
+outline_formed text tables outline bindings t e =
+    let f : late_read (late_begun built_in_interfaces) (lines_of text) ≡ Ok (record { outline = outline; bindings = bindings }) =
+    ap (λ (x : List Interface). late_read (late_begun x) (lines_of text)) (sym t) ∙ e in
+    (read_formed (lines_of text) (late_begun built_in_interfaces) (lines_formed text) begun_stands).of (record { outline = outline; bindings = bindings }) f
 
 pub formed : (text : List ℕ) → Holds (λ (l : Late). Formed l.scenario) (late text)
 unfolding late

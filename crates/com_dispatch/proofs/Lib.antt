@@ -1,7 +1,9 @@
 pub mod Others
 pub mod Given
 pub mod Passed
+pub mod FewMethods
 pub mod LateForms
+pub mod UnderWay
 pub mod CallLines
 pub mod InRange
 pub mod Lines

@@ -1,7 +1,8 @@
 -- Binding: the method that a member's name or number stands for, with its arguments, or why there is none.
-use Rattle.std.specs.Prelude.{◌≡◌, ℕ, ◌+◌, ◌-◌, List, [], ◌∷◌, length, Option, Some, None, Result, Ok, Err}
+use Rattle.std.specs.Prelude.{◌≡◌, ℕ, ◌+◌, ◌-◌, ◌≤◌, List, [], ◌∷◌, length, Option, Some, None, Result, Ok, Err}
 use Rattle.std.specs.Prelude.{Bool, true, false, ◌==◌, nat_lt, if◌then◌else◌, option_map, slice_get}
 use Rattle.std.specs.Str.{bytes_eq, str_to_ascii_lowercase}
+use Rattle.com_base.specs.declared.limits.TheConstants.{METHOD_LIMIT}
 use Rattle.com_base.specs.declared.hresult.HResult.{HResult}
 use Rattle.com_base.specs.declared.value.Kind.{Kind}
 use Rattle.com_base.specs.declared.value.Kind.TheVariants as kinds
@@ -95,6 +96,10 @@ found methods member args destination (Some index) =
 -- refusal that applies, or else the method with the coerced arguments.
 unfoldable pub bound_among : List Method → Member → List DispArg → Option Sort → Result Bound HResult
 bound_among methods member args destination = found methods member args destination (index_of methods member)
+
+-- An interface with no more methods than the language allows.
+abbrev pub HasFewMethods : Interface → Type 0
+HasFewMethods i = length i.methods ≤ METHOD_LIMIT
 
 abbrev pub methods_of : Option Interface → List Method
 methods_of None = []

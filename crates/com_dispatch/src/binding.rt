@@ -1,8 +1,11 @@
 //! The method that a member stands for, with its arguments.
 
-ghost use Rattle.std.specs.Prelude.{◌≡◌, ◌<◌, IfSome, length};
+ghost use Rattle.std.specs.Prelude.{◌≡◌, ◌<◌, ◌≤◌, All, IfSome, length};
+ghost use Rattle.com_base.specs.declared.limits.TheConstants.{METHOD_LIMIT};
+ghost use Rattle.com_classes.specs.Lookups.{interface_at};
 ghost use Rattle.com_dispatch.specs.Binding.{same_name, index_of_name, index_of_number, index_of, absent};
 ghost use Rattle.com_dispatch.specs.Binding.{is_for, signed, bound_among, bound, Binds};
+ghost use Rattle.com_dispatch.specs.Binding.{HasFewMethods, methods_of};
 
 use crate::coercing::coerce_all;
 use crate::members::{BindError, Bound, DispArg, Member, Sort};
@@ -81,7 +84,7 @@ fn is_for(result_kind: Option<Kind>, destination: Option<Sort>) -> bool
     }
 }
 
-// A method with its arguments.
+// A method with its arguments, by its index in the interface.
 fn bind_arguments(
     alloc: Global,
     index: usize,
@@ -89,6 +92,7 @@ fn bind_arguments(
     args: &[DispArg],
     destination: Option<Sort>,
 ) -> Result<Bound, BindError>
+    requires { index < METHOD_LIMIT }
     ensures { Binds result (signed index method.now args.now destination) }
 {
     let params = method.params.as_slice();
@@ -101,20 +105,19 @@ fn bind_arguments(
     if !is_for(method.result, destination) {
         return Err(BindError::Disp(HResult::DISP_E_TYPEMISMATCH));
     }
-    match u16::try_from(index) {
-        Ok(method) => Ok(Bound { method, args }),
-        Err(_) => Err(BindError::Memory),
-    }
+    Ok(Bound {
+        method: index as u16,
+        args,
+    })
 }
 
-/// The method among those of an interface that a member names, with the arguments coerced to its
-/// parameters' kinds.
+/// The method among those of an interface, at most `METHOD_LIMIT`, that a member names, with the arguments
+/// coerced to its parameters' kinds.
 ///
 /// `Disp` has the first of these that applies: DISP_E_UNKNOWNNAME where a name names no method,
 /// DISP_E_MEMBERNOTFOUND where a number names none, DISP_E_BADPARAMCOUNT where the arguments are not as
 /// many as the parameters, DISP_E_TYPEMISMATCH where an argument is not coerced to its parameter's kind or
-/// the destination is not of the result's sort. `Memory` comes where memory is short, and for a method past
-/// the 65,536th.
+/// the destination is not of the result's sort. `Memory` comes where memory is short.
 #[tactic(auto, unfolding(crate::specs::Binding::bound_among))]
 pub fn bind_among(
     alloc: Global,
@@ -123,6 +126,7 @@ pub fn bind_among(
     args: &[DispArg],
     destination: Option<Sort>,
 ) -> Result<Bound, BindError>
+    requires { length methods.now ≤ METHOD_LIMIT }
     ensures binds { Binds result (bound_among methods.now member.now args.now destination) }
 {
     match index_of(methods, member) {
@@ -131,9 +135,21 @@ pub fn bind_among(
     }
 }
 
+// The methods of an interface by its number; none where no interface has it.
+fn methods_of(classes: &Classes, iface: u16) -> &[Method]
+    requires { All HasFewMethods classes.now.interfaces }
+    ensures value { result.now ≡ methods_of (interface_at classes.now iface) }
+    ensures few { length result.now ≤ METHOD_LIMIT }
+{
+    match classes.interface(iface) {
+        None => &[],
+        Some(interface) => interface.methods.as_slice(),
+    }
+}
+
 /// The method of an interface, by its number, that a member names, with the arguments coerced to its
 /// parameters' kinds, or the refusal, as `bind_among` says. A number that no interface has is answered as
-/// an interface without methods is.
+/// an interface without methods is. Each interface has at most `METHOD_LIMIT` methods, as in every scenario.
 ///
 /// Source: IDispatch::GetIDsOfNames and IDispatch::Invoke, and the HRESULTs that they document.
 pub fn bind(
@@ -144,16 +160,8 @@ pub fn bind(
     args: &[DispArg],
     destination: Option<Sort>,
 ) -> Result<Bound, BindError>
+    requires { All HasFewMethods classes.now.interfaces }
     ensures binds { Binds result (bound classes.now iface member.now args.now destination) }
 {
-    match classes.interface(iface) {
-        None => bind_among(alloc, &[], member, args, destination),
-        Some(interface) => bind_among(
-            alloc,
-            interface.methods.as_slice(),
-            member,
-            args,
-            destination,
-        ),
-    }
+    bind_among(alloc, methods_of(classes, iface), member, args, destination)
 }

@@ -1,9 +1,11 @@
 //! A scenario with late-bound calls from its text.
 
-ghost use Rattle.std.specs.Prelude.{◌≡◌, IfOk};
+ghost use Rattle.std.specs.Prelude.{◌≡◌, All, IfOk};
+ghost use Rattle.com_classes.specs.BuiltIns.{built_in_interfaces};
 ghost use Rattle.com_model.specs.Formed.{Formed};
 ghost use Rattle.com_text.specs.Scanning.{lines_of};
 ghost use Rattle.com_read_operands.specs.Reading.{Gives};
+ghost use Rattle.com_dispatch.specs.Binding.{HasFewMethods};
 ghost use Rattle.com_dispatch.specs.Late.{invoke_line, is_invoke, late_line, late_step};
 ghost use Rattle.com_dispatch.specs.Late.{late_read, late_begun, late};
 
@@ -29,6 +31,7 @@ fn invoke_line(
     word: &Word,
     line: &[Word],
 ) -> Result<(), ScenarioError>
+    requires { All HasFewMethods names.now.tables }
     ensures { Gives (λ u. record { code = code.new; bindings = bindings.new.items }) result
         (invoke_line limit names.now (record { code = code.old; bindings = bindings.old.items })
         word.now line.now) }
@@ -67,6 +70,7 @@ fn late_line(
     word: &Word,
     line: &[Word],
 ) -> Result<(), ScenarioError>
+    requires { All HasFewMethods st.old.names.tables }
     ensures { Gives (λ u. record { state = st.new; bindings = bindings.new.items }) result
         (late_line (record { state = st.old; bindings = bindings.old.items }) word.now line.now) }
 {
@@ -98,6 +102,7 @@ fn late_step(
     bindings: &mut Vec<Binding>,
     line: &[Word],
 ) -> Result<(), ScenarioError>
+    requires { All HasFewMethods st.old.names.tables }
     ensures { Gives (λ u. record { state = st.new; bindings = bindings.new.items }) result
         (late_step (record { state = st.old; bindings = bindings.old.items }) line.now) }
 {
@@ -117,6 +122,7 @@ fn late_outline(
     built_in: Rows<Interface>,
     text: &[u8],
 ) -> Result<(Outline, Vec<Binding>), ScenarioError>
+    requires { built_in ≡ built_in_interfaces }
     ensures { Gives (λ r. record { outline = r.0; bindings = r.1.items }) result
         (late_read (late_begun built_in) (lines_of text.now)) }
 {
@@ -141,7 +147,7 @@ fn late_outline(
 }
 
 // What a text of late calls says, with the scenario of what is declared.
-#[tactic(auto, unfolding(crate::specs::Late::late))]
+#[tactic(auto, using(crate::proofs::LateForms::outline_formed), unfolding(crate::specs::Late::late))]
 fn late_scenario(alloc: Global, text: &[u8]) -> Result<Late, ScenarioError>
     ensures { Gives (λ l. l) result (late text.now) }
 {

@@ -62,7 +62,7 @@ pub struct Bound {
 pub enum BindError {
     /// It is refused: DISP_E_UNKNOWNNAME, DISP_E_MEMBERNOTFOUND, DISP_E_BADPARAMCOUNT or DISP_E_TYPEMISMATCH.
     Disp(HResult),
-    /// There was not enough memory, or the method's number does not fit 16 bits.
+    /// There was not enough memory.
     Memory,
 }
 

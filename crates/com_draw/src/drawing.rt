@@ -6,6 +6,7 @@ ghost use Rattle.com_draw.specs.Ends.{end_text};
 ghost use Rattle.com_draw.specs.Entries.{after, drawn, entry_text, labelled};
 ghost use Rattle.com_draw.specs.Fronts.{front, front_names, front_styles};
 ghost use Rattle.com_draw.specs.Pages.{written};
+ghost use Rattle.com_draw.specs.Pictures.{depth_in};
 ghost use Rattle.com_draw_shapes.specs.Changes.{changed};
 ghost use Rattle.com_draw_shapes.specs.Places.{start_of};
 
@@ -92,8 +93,9 @@ impl Drawing {
         })
     }
 
-    /// Appends what stands of the next entry of a history in the page, and draws it. The only error is want of
-    /// memory; then the text has a part of it.
+    /// Appends what stands of the next entry of a history in the page, and draws it. The entry's number fits, and
+    /// with one more less than 2^31 stands open in its lane. The only error is want of memory; then the text has
+    /// a part of it.
     #[tactic(auto, unfolding(crate::specs::Entries::after, crate::specs::Entries::entry_text))]
     pub fn push_entry(
         &mut self,
@@ -103,6 +105,7 @@ impl Drawing {
         out: &mut ByteList,
     ) -> Result<(), Memory>
         requires room { self.old.entries < 2 ^ 63 }
+        requires depth { depth_in self.old entry.now.lane + 1 < 2 ^ 31 }
         ensures after { OnOk result (self.new ≡ after scenario.now self.old entry.now) }
         ensures text { OnOk result (out.new ≡ out.old ++ entry_text scenario.now self.old entry.now) }
     {

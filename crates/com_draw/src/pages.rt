@@ -1,5 +1,5 @@
 //! The page of a history.
-ghost use Rattle.std.specs.Prelude.{◌≡◌, ◌++◌, OnOk, reverse};
+ghost use Rattle.std.specs.Prelude.{◌≡◌, ◌<◌, ◌^◌, ◌++◌, OnOk, length, reverse};
 ghost use Rattle.com_model.specs.Formed.{Formed};
 ghost use Rattle.com_draw.specs.Pages.{page};
 
@@ -10,7 +10,7 @@ use com_model::{Entry, Scenario};
 use std::alloc::Global;
 
 /// Appends the page of a history of a formed scenario, which has ended, by its entries in the order of their
-/// making. The only error is want of memory; then the text has a part of it.
+/// making, fewer than 2^31. The only error is want of memory; then the text has a part of it.
 pub fn push_page(
     alloc: Global,
     scenario: &Scenario,
@@ -18,7 +18,8 @@ pub fn push_page(
     beside: &Beside,
     out: &mut ByteList,
 ) -> Result<(), Memory>
-    requires { Formed scenario.now }
+    requires formed { Formed scenario.now }
+    requires few { length entries.now < 2 ^ 31 }
     ensures { OnOk result (out.new ≡ out.old ++ page scenario.now (reverse entries.now) beside.now) }
 {
     let mut drawing = Drawing::begin(alloc, scenario, out)?;

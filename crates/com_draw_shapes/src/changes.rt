@@ -1,8 +1,8 @@
 //! What an entry changes of a picture's board.
-ghost use Rattle.std.specs.Prelude.{◌≡◌, ◌<◌, OnOk};
+ghost use Rattle.std.specs.Prelude.{◌≡◌, ◌+◌, ◌<◌, ◌^◌, OnOk};
 ghost use Rattle.com_draw_words.specs.declared.limits.TheConstants.{ROWS};
 ghost use Rattle.com_draw_shapes.specs.Changes.{changed, closed_on, cut_on, left_on, opened_on, own_home};
-ghost use Rattle.com_draw_state.specs.Lanes.{lane_at};
+ghost use Rattle.com_draw_state.specs.Lanes.{depth_of, lane_at};
 
 use crate::effects::{Closing, Opens, closed_by, opened_by};
 use crate::places::below;
@@ -10,8 +10,9 @@ use com_base::{FIRST_STA, Memory};
 use com_draw_state::{Board, Home, Start, Track};
 use com_model::Entry;
 
-// What opens in a lane.
+// What opens in a lane, which makes less than 2^31 there.
 fn open(board: &mut Board, here: Start, lane: u32, opens: Opens) -> Result<(), Memory>
+    requires { depth_of (lane_at board.old.lanes lane) + 1 < 2 ^ 31 }
     ensures { OnOk result (board.new ≡ opened_on here lane opens board.old) }
 {
     match opens {
@@ -80,11 +81,12 @@ pub fn has_home(board: &Board, lane: u32) -> bool
     }
 }
 
-/// What an entry changes of the board: its lane acted, and what it opens and closes. The only error is want
-/// of memory.
+/// What an entry changes of the board: its lane acted, and what it opens and closes. With one more, less than
+/// 2^31 stands open in its lane. The only error is want of memory.
 #[tactic(auto, unfolding(crate::specs::Changes::changed))]
 pub fn change(board: &mut Board, here: Start, entry: &Entry) -> Result<(), Memory>
-    requires { here.row < 40 }
+    requires row { here.row < 40 }
+    requires depth { depth_of (lane_at board.old.lanes entry.now.lane) + 1 < 2 ^ 31 }
     ensures { OnOk result (board.new ≡ changed here entry.now board.old) }
 {
     let has_home = has_home(board, entry.lane);

@@ -109,8 +109,10 @@ impl Board {
         settle(self.lanes.as_mut_slice(), lane, home);
     }
 
-    /// Something more stands open in the lane. The only error is want of memory.
+    /// Something more stands open in the lane, which makes less than 2^31 there. The only error is want of
+    /// memory.
     pub fn open(&mut self, lane: u32, what: Opened, start: Start) -> Result<(), Memory>
+        requires { depth_of (lane_at self.old.lanes lane) + 1 < 2 ^ 31 }
         ensures { OnOk result (self.new ≡ with_lanes
             (with_lane (with_opening (record { what = what; start = start })) lane self.old.lanes) self.old) }
     {

@@ -1,5 +1,5 @@
 //! The lanes of a picture: the home of each, what stands open in it, and how wide it has to be.
-ghost use Rattle.std.specs.Prelude.{◌≡◌, ◌<◌, ◌≤◌, ◌^◌, MatchOption, OnOk, length};
+ghost use Rattle.std.specs.Prelude.{◌≡◌, ◌+◌, ◌<◌, ◌≤◌, ◌^◌, MatchOption, OnOk, length};
 ghost use Rattle.com_draw_state.specs.Lanes.{acted, depth_of, homed, lane_at, new_lane, waiter_at};
 ghost use Rattle.com_draw_state.specs.Lanes.{waiter_by, waiter_in, widened, with_lane, with_opening};
 ghost use Rattle.com_draw_state.specs.Lanes.{without_innermost};
@@ -111,8 +111,9 @@ pub(crate) fn settle(lanes: &mut [Lane], lane: u32, home: Option<Home>)
     lanes[lane as usize - 1].home = home;
 }
 
-// Something more stands open in the lane.
+// Something more stands open in the lane, which makes less than 2^31 there.
 pub(crate) fn open(lanes: &mut [Lane], lane: u32, opening: Opening) -> Result<(), Memory>
+    requires { depth_of (lane_at lanes.old lane) + 1 < 2 ^ 31 }
     ensures { OnOk result (lanes.new ≡ with_lane (with_opening opening) lane lanes.old) }
 {
     if lane == 0 || lane as usize > lanes.len() {

@@ -1,5 +1,5 @@
 //! What stands open in a lane, and where each began.
-ghost use Rattle.std.specs.Prelude.{◌≡◌, ◌<◌, ◌^◌, ◌++◌, ◌∷◌, [], OnOk, length};
+ghost use Rattle.std.specs.Prelude.{◌≡◌, ◌+◌, ◌<◌, ◌^◌, ◌++◌, ◌∷◌, [], OnOk, length};
 ghost use Rattle.com_draw_state.specs.Stacks.{innermost, outer};
 
 use com_base::Memory;
@@ -55,9 +55,6 @@ pub struct Opening {
     pub start: Start,
 }
 
-// How much may stand open in a lane, and one more.
-const DEPTHS: usize = 0x7fff_ffff;
-
 /// What stands open in a lane, the outermost first.
 #[derive(Debug, Drop)]
 pub struct Openings {
@@ -108,13 +105,11 @@ impl Openings {
         self.openings.as_slice().last().copied()
     }
 
-    /// Something more stands open. The only error is want of memory, which there is for less than 2^31.
+    /// Something more stands open, which makes less than 2^31. The only error is want of memory.
     pub fn push(&mut self, opening: Opening) -> Result<(), Memory>
+        requires { length self.old + 1 < 2 ^ 31 }
         ensures { OnOk result (self.new ≡ self.old ++ opening ∷ []) }
     {
-        if self.openings.len() >= DEPTHS {
-            return Err(Memory);
-        }
         self.openings.push(opening)?;
         Ok(())
     }

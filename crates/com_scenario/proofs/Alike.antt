@@ -31,7 +31,7 @@ bytes_flip [] (y ∷ ys) = refl
 bytes_flip (x ∷ xs) [] = refl
 bytes_flip (x ∷ xs) (y ∷ ys) = ap (λ (b : Bool). b && bytes_eq xs ys) (eqb_flip x y) ∙ ap (λ (b : Bool). eqb y x && b) (bytes_flip xs ys)
 
-guid_flip : (g k : Guid) → guid_eq g k ≡ guid_eq k g
+pub guid_flip : (g k : Guid) → guid_eq g k ≡ guid_eq k g
 guid_flip g k = cc (eqb_flip g.data1 k.data1, eqb_flip g.data2 k.data2, eqb_flip g.data3 k.data3, bytes_flip g.data4 k.data4)
 
 -- ---- not among others

@@ -1,4 +1,5 @@
 pub mod Alike
+pub mod Unrefused
 pub mod Lengths
 pub mod Growing
 pub mod Declaring

@@ -1,12 +1,15 @@
 //! A scenario from its text.
 
-ghost use Rattle.std.specs.Prelude.{◌≡◌, ◌++◌, ◌∷◌, [], drop, OnOk, IfOk};
+ghost use Rattle.std.specs.Prelude.{◌≡◌, ◌≤◌, ◌++◌, ◌∷◌, [], None, drop, length, OnOk, IfOk};
+ghost use Rattle.com_base.specs.declared.limits.TheConstants.{CLASS_LIMIT};
+ghost use Rattle.com_classes.specs.BuiltIns.{built_in_interfaces};
+ghost use Rattle.com_classes.specs.Lookups.{class_refusal, interface_refusal};
 ghost use Rattle.com_read_operands.specs.Reading.{Gives};
-ghost use Rattle.com_model.specs.Formed.{Formed};
+ghost use Rattle.com_model.specs.Formed.{Distinct, Formed, FormedInterfaces, same_class};
 ghost use Rattle.com_scenario.specs.Scenarios.{tables_of, scenario_of, reading};
 
 use com_base::{BUILT_IN_COUNT, Memory, Rows};
-use com_classes::{Class, Classes, Interface, built_in_interfaces};
+use com_classes::{Class, ClassError, Classes, Interface, built_in_interfaces};
 use com_model::Scenario;
 use com_read_operands::ScenarioError;
 use com_read_sections::{Outline, outline_of};
@@ -20,29 +23,36 @@ fn declared_interfaces(mut interfaces: Vec<Interface>) -> Result<Vec<Interface>,
     interfaces.split_off(from)
 }
 
-// Adds an interface. One whose IID is there, and one too many, are refused where they are declared.
+// Adds an interface that is not refused. The only error is want of memory.
 fn add_interface(classes: &mut Classes, interface: Interface) -> Result<(), Memory>
+    requires { interface_refusal classes.old interface ≡ None }
     ensures { OnOk result (classes.new
         ≡ record classes.old { interfaces = classes.old.interfaces ++ interface ∷ [] }) }
 {
     match classes.add_interface(interface) {
         Ok(_) => Ok(()),
-        Err(_) => Err(AllocError),
+        Err(ClassError::Memory) => Err(AllocError),
+        Err(_) => unreachable!(),
     }
 }
 
-// Adds a class. One whose CLSID is there, and one too many, are refused where they are declared.
+// Adds a class that is not refused. The only error is want of memory.
 fn add_class(classes: &mut Classes, class: Class) -> Result<(), Memory>
+    requires { class_refusal classes.old class ≡ None }
     ensures { OnOk result (classes.new ≡ record classes.old { classes = classes.old.classes ++ class ∷ [] }) }
 {
     match classes.add_class(class) {
         Ok(_) => Ok(()),
-        Err(_) => Err(AllocError),
+        Err(ClassError::Memory) => Err(AllocError),
+        Err(_) => unreachable!(),
     }
 }
 
-// The tables of an outline's interfaces and classes.
+// The tables of an outline's interfaces and classes, which keep the forms and the limits of the language.
 fn tables(alloc: Global, interfaces: Rows<Interface>, list: Rows<Class>) -> Result<Classes, Memory>
+    requires interfaces { FormedInterfaces (built_in_interfaces ++ drop 4 interfaces) }
+    requires few { length list ≤ CLASS_LIMIT }
+    requires distinct { Distinct same_class list }
     ensures { IfOk result (λ t. t ≡ tables_of interfaces list) }
 {
     let mut classes = Classes::new(alloc)?;
@@ -55,8 +65,9 @@ fn tables(alloc: Global, interfaces: Rows<Interface>, list: Rows<Class>) -> Resu
     Ok(classes)
 }
 
-/// The scenario of an outline. The only error is want of memory.
+/// The scenario of an outline, where it is formed. The only error is want of memory.
 pub fn scenario(alloc: Global, outline: Outline) -> Result<Scenario, Memory>
+    requires { Formed (scenario_of outline) }
     ensures { IfOk result (λ s. s ≡ scenario_of outline) }
 {
     Ok(Scenario {

@@ -5,7 +5,6 @@ use Rattle.com_model.specs.declared.counts.Ended.{Ended}
 use Rattle.com_model.specs.declared.deeds.Entry.{Entry}
 use Rattle.com_model.specs.declared.scenario.Scenario.{Scenario}
 use Rattle.com_model.specs.Ends.{ended_as}
-use Rattle.com_model.specs.Formed.{Formed}
 use Rattle.com_model.specs.Rules.{legal}
 use Rattle.com_command_replay.specs.Replays.{whole_served}
 use Rattle.com_command_replay.specs.Recorded.{IsRecorded}
@@ -25,19 +24,19 @@ use Rattle.com_command_replay.specs.Scenarios.{scenario_input}
 
 abbrev Explains : Scenario → List Entry → Ended → Option Waits → Type 0
 Explains s entries x w =
-    Formed s → legal s (reverse entries) → ended_as s (reverse entries) ≡ Some x → w ≡ explanation_of s (reverse entries)
+    legal s (reverse entries) → ended_as s (reverse entries) ≡ Some x → w ≡ explanation_of s (reverse entries)
 
-explained_is : (s : Scenario) (entries : List Entry) (x : Ended) (w : Option Waits) (text : List ℕ) → Formed s → IsRecorded s entries x
+explained_is : (s : Scenario) (entries : List Entry) (x : Ended) (w : Option Waits) (text : List ℕ) → IsRecorded s entries x
     → Explains s entries x w → text ≡ text_of w → text ≡ explanation s
 unfolding explanation
-explained_is s entries x w text f r explains written =
-    written ∙ ap text_of (explains f r.lawful r.ended_is) ∙ ap (λ (h : List Entry). text_of (explanation_of s h)) r.history
+explained_is s entries x w text r explains written =
+    written ∙ ap text_of (explains r.lawful r.ended_is) ∙ ap (λ (h : List Entry). text_of (explanation_of s h)) r.history
 
 -- What is explained, of a scenario and of entries that are looked at.
 pub explained_at : (s seen : Scenario) (entries slice : List Entry) (x : Ended) (w : Option Waits) (text : List ℕ)
-    → seen ≡ s → slice ≡ entries → Formed s → IsRecorded s entries x → Explains seen slice x w → text ≡ text_of w → text ≡ explanation s
-explained_at s seen entries slice x w text is_seen is_slice f r explains written =
-    explained_is s entries x w text f r
+    → seen ≡ s → slice ≡ entries → IsRecorded s entries x → Explains seen slice x w → text ≡ text_of w → text ≡ explanation s
+explained_at s seen entries slice x w text is_seen is_slice r explains written =
+    explained_is s entries x w text r
     (subst (λ (y : Scenario). Explains y entries x w) is_seen (subst (λ (es : List Entry). Explains seen es x w) is_slice explains)) written
 
 -- ---- what was said of it

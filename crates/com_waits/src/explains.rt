@@ -14,7 +14,7 @@ use crate::reasons::{Wait, Waits, Why};
 use crate::walks::wait_rows;
 use com_base::Memory;
 use com_model::{Ended, Entry, Scenario};
-use std::alloc::{AllocError, Global};
+use std::alloc::Global;
 
 /// How many lanes a scenario has, and the least lane of its pool.
 #[derive(Debug, Clone, Copy)]
@@ -25,19 +25,17 @@ pub struct LaneNumbers {
     pub pool: u32,
 }
 
-/// The numbers of a scenario's lanes. The only error is want of memory, which comes for more lanes than a
-/// number of 32 bits holds.
-pub fn lane_numbers(scenario: &Scenario) -> Result<LaneNumbers, Memory>
-    ensures lanes { IfOk result (λ numbers. numbers.lanes ≡ lanes scenario.now) }
-    ensures pool { IfOk result (λ numbers. numbers.pool ≡ pool_lane scenario.now) }
+/// The numbers of a formed scenario's lanes.
+pub fn lane_numbers(scenario: &Scenario) -> LaneNumbers
+    requires { Formed scenario.now }
+    ensures lanes { result.lanes ≡ lanes scenario.now }
+    ensures pool { result.pool ≡ pool_lane scenario.now }
 {
-    let Some(lanes) = scenario.lanes() else {
-        return Err(AllocError);
-    };
-    Ok(LaneNumbers {
-        lanes,
-        pool: scenario.threads.len() as u32 + 2,
-    })
+    let threads = scenario.threads.len() as u32;
+    LaneNumbers {
+        lanes: threads + 1 + scenario.pool,
+        pool: threads + 2,
+    }
 }
 
 // Why the lanes of a stuck history wait.
@@ -73,8 +71,8 @@ pub fn explain_by(
     }
 }
 
-/// Why a history that has ended so is stuck, by its entries in the order of their making; nothing where it is
-/// not stuck. The only error is want of memory.
+/// Why a history of a formed scenario that has ended so is stuck, by its entries in the order of their making;
+/// nothing where it is not stuck. The only error is want of memory.
 ///
 /// It is for callers that made the history and know its end. `com_replay::explain` finds the end by itself.
 pub fn waits_at(
@@ -83,23 +81,25 @@ pub fn waits_at(
     history: &[Entry],
     ended: Ended,
 ) -> Result<Option<Waits>, Memory>
-    ensures { IfOk result (λ waits. Formed scenario.now → legal scenario.now (told history.now)
+    requires { Formed scenario.now }
+    ensures { IfOk result (λ waits. legal scenario.now (told history.now)
         → ended_as scenario.now (told history.now) ≡ Some ended
         → waits ≡ explanation_of scenario.now (told history.now)) }
 {
-    let numbers = lane_numbers(scenario)?;
+    let numbers = lane_numbers(scenario);
     explain_by(alloc, numbers, history, ended)
 }
 
-/// Why the lanes of a scenario's stuck history wait, by its entries in the order of their making. The only
-/// error is want of memory.
+/// Why the lanes of a formed scenario's stuck history wait, by its entries in the order of their making. The
+/// only error is want of memory.
 #[tactic(auto, using(crate::proofs::Explained::stuck_rows))]
 pub fn waits_stuck(alloc: Global, scenario: &Scenario, history: &[Entry]) -> Result<Waits, Memory>
-    ensures { IfOk result (λ waits. Formed scenario.now → legal scenario.now (told history.now)
+    requires { Formed scenario.now }
+    ensures { IfOk result (λ waits. legal scenario.now (told history.now)
         → stuck scenario.now (told history.now) ≡ true
         → waits ≡ explanation scenario.now (told history.now)) }
 {
-    let numbers = lane_numbers(scenario)?;
+    let numbers = lane_numbers(scenario);
     explain_rows(alloc, numbers, history)
 }
 
@@ -144,16 +144,17 @@ fn same(left: &Waits, right: &Waits) -> bool
         && left.cycle.as_slice() == right.cycle.as_slice()
 }
 
-/// Whether these are the lanes that wait in a stuck history, with their reasons and their cycle. It is judged
-/// by the entries alone, in the order of their making, so it asks for no trust in what made the explanation.
-/// The only error is want of memory.
+/// Whether these are the lanes that wait in a formed scenario's stuck history, with their reasons and their
+/// cycle. It is judged by the entries alone, in the order of their making, so it asks for no trust in what made
+/// the explanation. The only error is want of memory.
 pub fn confirms(
     alloc: Global,
     scenario: &Scenario,
     history: &[Entry],
     waits: &Waits,
 ) -> Result<bool, Memory>
-    ensures { IfOk result (λ yes. Formed scenario.now → legal scenario.now (told history.now)
+    requires { Formed scenario.now }
+    ensures { IfOk result (λ yes. legal scenario.now (told history.now)
         → stuck scenario.now (told history.now) ≡ true
         → (IsTrue yes ↔ (waits.now ≡ explanation scenario.now (told history.now)))) }
 {

@@ -1,7 +1,9 @@
 //! The statement that an `invoke` stands for.
 
-ghost use Rattle.std.specs.Prelude.{◌≡◌, IfOk, All, map};
+ghost use Rattle.std.specs.Prelude.{◌≡◌, ◌≤◌, IfOk, All, length, map, slice_get};
+ghost use Rattle.com_base.specs.declared.limits.TheConstants.{METHOD_LIMIT};
 ghost use Rattle.com_body.specs.Bodies.{IsArg, IsInRange};
+ghost use Rattle.com_dispatch.specs.Binding.{HasFewMethods, methods_of};
 ghost use Rattle.com_dispatch.specs.Ranges.{IsDispArg};
 ghost use Rattle.com_dispatch.specs.Invoking.{IsInvocation};
 ghost use Rattle.com_dispatch.specs.Standing.{sort_of, outcome_of, argument_of, statement_of, IsOutcome};
@@ -9,7 +11,7 @@ ghost use Rattle.com_dispatch.specs.Standing.{sort_of, outcome_of, argument_of, 
 use crate::{BindError, BindOutcome, DispArg, Invocation, Sort, bind_among};
 use com_base::{ANSWER_REGISTER, Memory, Rows, Value};
 use com_body::{Arg, Destination, Op, Stmt};
-use com_classes::Interface;
+use com_classes::{Interface, Method};
 use std::alloc::{AllocError, Global};
 
 // What an `invoke` wants its result in: a register or a slot. None where it wants no result.
@@ -23,25 +25,34 @@ fn sort_of(destination: Destination) -> Option<Sort>
     }
 }
 
-/// What a statement is bound to among the interfaces that are declared above it, or its refusal. The only
-/// error is want of memory.
+// The methods of an interface by its number; none where no interface has it.
+fn methods_at(tables: &[Interface], iface: u16) -> &[Method]
+    requires { All HasFewMethods tables.now }
+    ensures value { result.now ≡ methods_of (slice_get tables.now iface) }
+    ensures few { length result.now ≤ METHOD_LIMIT }
+{
+    match tables.get(iface as usize) {
+        None => &[],
+        Some(interface) => interface.methods.as_slice(),
+    }
+}
+
+/// What a statement is bound to among the interfaces that are declared above it, each with at most
+/// `METHOD_LIMIT` methods, or its refusal. The only error is want of memory.
 #[tactic(auto, using(crate::proofs::InRange::bound_stays), unfolding(crate::specs::Standing::outcome_of))]
 pub fn outcome(
     alloc: Global,
     tables: &[Interface],
     invocation: &Invocation,
 ) -> Result<BindOutcome, Memory>
-    requires { IsInvocation invocation.now }
+    requires few { All HasFewMethods tables.now }
+    requires invocation { IsInvocation invocation.now }
     ensures value { IfOk result (λ o. o ≡ outcome_of tables.now invocation.now) }
     ensures range { IfOk result IsOutcome }
 {
-    let methods = match tables.get(invocation.iface as usize) {
-        None => &[],
-        Some(interface) => interface.methods.as_slice(),
-    };
     match bind_among(
         alloc,
-        methods,
+        methods_at(tables, invocation.iface),
         &invocation.member,
         invocation.args.as_slice(),
         sort_of(invocation.destination),

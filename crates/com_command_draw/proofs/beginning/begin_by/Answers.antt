@@ -2,7 +2,7 @@ use Rattle.std.proofs.Common.{arith, ap, ◌∙◌}
 use Rattle.com_replay.specs.Steps.{over_of as end_of}
 use Rattle.com_replay.proofs.Driving.{driving_on, driving_over_step, driving_same, driving_start_at}
 use Rattle.com_replay.proofs.Recording.{made_of, over_of}
-use Rattle.com_command_draw.proofs.Passing.{passing_ends, passing_kept, passing_on_at, passing_reached, passing_room, passing_smaller_at, passing_starts, passing_within}
+use Rattle.com_command_draw.proofs.Passing.{passing_depth, passing_ends, passing_kept, passing_on_at, passing_reached, passing_room, passing_smaller_at, passing_starts, passing_within}
 use Rattle.com_command_draw.proofs.beginning.begin_by.Goals as goal
 
 pub turns-init : goal.turns-init
@@ -22,7 +22,10 @@ pub step-requires-clause-reached : goal.step-requires-clause-reached
 step-requires-clause-reached g c = passing_reached c.args.scenario.now _ _ _ _ _ _ _ c.requires.formed c.turns.invariant.passing
 
 pub push_entry-requires : goal.push_entry-requires
-push_entry-requires g c = record { room = passing_room c.args.scenario.now _ _ _ _ _ _ _ c.turns.invariant.passing }
+push_entry-requires g c = record {
+  room = passing_room c.args.scenario.now _ _ _ _ _ _ _ c.turns.invariant.passing;
+  depth = passing_depth c.args.scenario.now _ _ _ _ _ _ _ c.last.result.now.lane c.turns.invariant.passing;
+}
 
 pub turns-preserved : goal.turns-preserved
 turns-preserved g c =

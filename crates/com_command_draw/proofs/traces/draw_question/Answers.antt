@@ -2,8 +2,11 @@ use Rattle.std.specs.Arc.{arc_value}
 use Rattle.std.proofs.lemmas.List.{take_rest}
 use Rattle.std.proofs.lemmas.Result.{IfOk-weaker}
 use Rattle.com_command_draw.specs.Traces.{IsTraceAnswer}
-use Rattle.com_command_draw.proofs.Answered.{agreed_of, differs_of, refuted_at, traced_at}
+use Rattle.com_command_draw.proofs.Answered.{agreed_of, agreed_short, differs_of, refuted_at, traced_at}
 use Rattle.com_command_draw.proofs.traces.draw_question.Goals as goal
+
+pub draw_agreed-requires-clause-few : goal.draw_agreed-requires-clause-few
+draw_agreed-requires-clause-few c = agreed_short _ _ c.in_ok-read.read c.in-Agrees.agreed c.in-Agrees.is c.in_ok-read.ensures
 
 pub returns-in-Agrees : goal.returns-in-Agrees
 returns-in-Agrees c =

@@ -2,7 +2,6 @@
 use Rattle.std.proofs.Common.{◌≡◌, Some}
 use Rattle.std.proofs.lemmas.Result.{IfOk-weaker}
 use Rattle.com_model.specs.Ends.{ended_as}
-use Rattle.com_model.specs.Formed.{Formed}
 use Rattle.com_model.specs.Rules.{legal}
 use Rattle.com_waits.specs.Chains.{explanation_of}
 use Rattle.com_waits.specs.Walks.{told}
@@ -11,5 +10,5 @@ use Rattle.com_waits.proofs.explains.waits_at.Goals as goal
 pub returns : goal.returns
 returns c =
     IfOk-weaker c.explain_by.result _
-    (λ w. Formed c.args.scenario.now → legal c.args.scenario.now (told c.args.history.now) → ended_as c.args.scenario.now (told c.args.history.now) ≡ Some c.args.ended → w ≡ explanation_of c.args.scenario.now (told c.args.history.now))
-    (λ w f. f c.args.scenario.now c.in_ok-numbers.ensures.lanes c.in_ok-numbers.ensures.pool) c.explain_by.ensures
+    (λ w. legal c.args.scenario.now (told c.args.history.now) → ended_as c.args.scenario.now (told c.args.history.now) ≡ Some c.args.ended → w ≡ explanation_of c.args.scenario.now (told c.args.history.now))
+    (λ w f. f c.args.scenario.now c.lane_numbers-numbers.ensures.lanes c.lane_numbers-numbers.ensures.pool c.requires) c.explain_by.ensures

@@ -12,4 +12,4 @@ pub returns : goal.returns
 returns c =
     let on : c.args.is_stuck ≡ true = first_of (search rules, grind (arith, common_steps)) in
     is_explained _ _ _ _ c.requires.stuck on
-    (c.in_ok-waits.ensures c.requires.lawful.formed c.requires.lawful.lawful (is_stuck_so _ _ _ c.requires.stuck on))
+    (c.in_ok-waits.ensures c.requires.lawful.lawful (is_stuck_so _ _ _ c.requires.stuck on))
