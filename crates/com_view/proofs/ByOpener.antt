@@ -11,20 +11,21 @@ use Rattle.com_model.specs.declared.scenario.Scenario.{Scenario}
 use Rattle.com_model.specs.Apartments.{home_by_sort, is_sta, mta}
 use Rattle.com_model.specs.Calls.{is_post, route_of}
 use Rattle.com_model.specs.Deeds.{in_sta}
+use Rattle.com_model.specs.Endings.{Answer, answer_of}
 use Rattle.com_model.specs.Lists.{first, or_else, where_true}
-use Rattle.com_model.specs.Rules.{admission, admits_next, admits_sta, asked_on, enters_itself, is_open_to_calls, is_script_turn, posted_again, retried, rule_again, rule_answer, rule_bound, rule_inbox, rule_own, rule_pending, rule_retry, rule_script, rule_word, ruled, scripted, takes_word, top}
+use Rattle.com_model.specs.Rules.{admission, admits_next, admits_sta, answered, asked_on, enters_itself, is_open_to_calls, is_script_turn, packet_left, posted_again, retried, rule_again, rule_answer, rule_bound, rule_inbox, rule_own, rule_pending, rule_retry, rule_script, rule_word, ruled, scripted, takes_word, top}
 use Rattle.com_model.specs.Sight.{Sight}
 use Rattle.com_model.specs.Tables.{LaneSort, Thread, Host, Pool, NoLane, lane_sort}
-use Rattle.com_model.specs.Waiting.{bound_reached}
+use Rattle.com_model.specs.Waiting.{bound_reached, mark_of, not_asked}
 use Rattle.com_view.specs.Ruled.{answer_deed, asked_deed, direct_deed, has_served, home_call, idle_call, moved_deed, posted_deed, pump_deed, stirs_to, wait_deed}
 use Rattle.com_view.specs.Seen.{Seen, dying_seen, sight_by}
 use Rattle.com_view.proofs.ByTop.{again_is, answer_is, body_is_none, bound_of, no_script, nobody_pumps, own_is, pending_is, rest, retry_is, wait_is_none, word_is}
 
 -- ---- the call that is let in
 
-no_call : (b : Bool) → (if b then None {X = ℕ} else None) ≡ None
-no_call true = refl
-no_call false = refl
+either : (b : Bool) (x : Option ℕ) → (if b then x else x) ≡ x
+either true x = refl
+either false x = refl
 
 swapped : (p q : Bool) (x : Option ℕ) → (if p && q then x else None) ≡ (if q then (if p then x else None) else None)
 swapped true true x = refl
@@ -34,7 +35,7 @@ swapped false false x = refl
 
 sta_call : (v : Sight) (l : ℕ) (x : LaneSort) (o : Option Opener) (home : Option ℕ) → top v l ≡ o
     → admits_sta v l x home ≡ (if is_open_to_calls v x o then home_call v home else None)
-sta_call v l x o None e = sym (no_call (is_open_to_calls v x o))
+sta_call v l x o None e = sym (either (is_open_to_calls v x o) None)
 sta_call v l x o (Some a) e =
     ap (λ (t : Option Opener). if is_sta a && is_open_to_calls v x t then first (v.inbox a) else None) e
     ∙ swapped (is_sta a) (is_open_to_calls v x o) (first (v.inbox a))
@@ -47,7 +48,7 @@ open_call v l Host o h e p = sta_call v l Host (Some o) (v.home l) e
 open_call v l NoLane o h e p = sta_call v l NoLane (Some o) (v.home l) e
 open_call v l Pool o h e p =
     ap (λ (t : Option Opener). if is_none t then first (v.inbox mta) else None) e
-    ∙ sym (ap (λ (t : Option ℕ). if is_open_to_calls v Pool (Some o) then home_call v t else None) p ∙ no_call (is_open_to_calls v Pool (Some o)))
+    ∙ sym (ap (λ (t : Option ℕ). if is_open_to_calls v Pool (Some o) then home_call v t else None) p ∙ either (is_open_to_calls v Pool (Some o)) None)
 
 idle_is : (v : Sight) (l : ℕ) (x : LaneSort) (h : Option ℕ) → top v l ≡ None → v.home l ≡ home_by_sort x h → admits_next v l x ≡ idle_call v x
 idle_is v l Thread h e p = sta_call v l Thread None (v.home l) e
@@ -148,11 +149,15 @@ and_none : (b : Bool) → (b && false) ≡ false
 and_none true = refl
 and_none false = refl
 
+not_made : (b : Bool) (d : Deed) → b ≡ false → where_true b d ≡ None
+not_made true d e = absurd cc
+not_made false d e = refl
+
 -- Without post nobody is asked about words.
 asked_none : (s : Scenario) (v : Sight) (l c : ℕ) (w : Option Word) → is_post (route_of (v.issue c)) ≡ false → asked_on s v l c w ≡ None
 asked_none s v l c None e = refl
 asked_none s v l c (Some w) e =
-    ap (λ (t : Bool). where_true t _) (ap (λ (t : Bool). in_sta (v.home l) && t) e ∙ and_none (in_sta (v.home l)))
+    not_made (in_sta (v.home l) && is_post (route_of (v.issue c))) _ (ap (λ (t : Bool). in_sta (v.home l) && t) e ∙ and_none (in_sta (v.home l)))
 
 own_posted : (s : Scenario) (v : Sight) (l c : ℕ) → is_post (route_of (v.issue c)) ≡ true → where_true (enters_itself v c) (admission s v l c) ≡ None
 own_posted s v l c e = ap (λ (t : Bool). where_true (not t && (is_none (v.admitted c) && is_none (v.ending c))) (admission s v l c)) e
@@ -191,9 +196,9 @@ waits_direct s v l c h e p q =
     with_script (or_else (answer_deed v c) (direct_deed s v l c)) (rule_script s v l) (rest s v l) z
     (by s v l o (answer_deed v c) None None r t None None
     (own_is s v l _ e ∙ own_direct s v l c q) (answer_is v l _ e) (bound_is v l false (bound_of (v.openers l) _ (v.served l) e (wait_is_none c)))
-    (lets_in s v l c h false e p q) (retry_is s v l _ e) (again_is v l _ e) (pending_is s v l _ e ∙ asked_none s v l c _ q) (word_is v l _ e)
+    (lets_in s v l c h false e p q) (retry_is s v l _ e) (again_is v l _ e) (pending_is s v l _ e ∙ asked_none s v l c (not_asked (mark_of (v.mail l).marks c) (v.mail l).words) q) (word_is v l _ e)
     ∙ ap (λ (y : Option Deed). or_else o (or_else (answer_deed v c) (or_else None (or_else None (or_else r (or_else t (or_else None (or_else None y)))))))) z
-    ∙ direct_chain _ _ (v.ending c) (is_none (v.admitted c)) (admission s v l c) r t)
+    ∙ direct_chain (λ (x : Answer). answered v c x (packet_left v c)) (answer_of (v.at_issue c)) (v.ending c) (is_none (v.admitted c)) (admission s v l c) r t)
 
 waiting : (s : Scenario) (v : Sight) (l c : ℕ) (h : Option ℕ) (post : Bool) → top v l ≡ Some (Waits c) → v.home l ≡ home_by_sort (lane_sort s l) h → is_post (route_of (v.issue c)) ≡ post
     → or_else (wait_deed s v l c) (rule_script s v l) ≡ rest s v l
@@ -230,6 +235,10 @@ pub ruled_by_final : (w : Seen) (b : Books) (l o : ℕ) → first (dying_seen w 
     → or_else (Some (deed.Final o)) (rule_script w.scenario (sight_by w b) l) ≡ ruled w.scenario (sight_by w b) l
 ruled_by_final w b l o e =
     given (first (dying_seen w l)) o (rule_script w.scenario (sight_by w b) l) (rest w.scenario (sight_by w b) l) e
+
+pub none_dies : (x : Option ℕ) → ((o : ℕ) → x ≡ Some o → ⊥) → x ≡ None
+none_dies None p = refl
+none_dies (Some o) p = absurd (p o refl)
 
 pub ruled_by_top : (w : Seen) (b : Books) (l : ℕ) → first (dying_seen w l) ≡ None
     → or_else (stirs_to w.scenario (sight_by w b) (lane_sort w.scenario l) l (top (sight_by w b) l)) (rule_script w.scenario (sight_by w b) l)

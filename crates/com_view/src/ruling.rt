@@ -246,7 +246,7 @@ impl<'a> View<'a> {
 
     /// Makes the entry that the first of the rules gives a lane, but for that of its script, in the place of
     /// another; whether there is one. The only error is want of memory.
-    #[tactic(auto, using(crate::proofs::ByOpener::ruled_by_final, crate::proofs::ByOpener::ruled_by_top))]
+    #[tactic(auto, using(crate::proofs::ByOpener::ruled_by_final))]
     pub fn rule<R: References>(
         &self,
         refs: &R,

@@ -7,7 +7,7 @@ returns-then-made g c =
     let w = c.args.view.now in
     let b = g.B.References.books c.args.books.now in
     record {
-      turn = turn_ruled w b c.args.lane _ c.rule_turn.new.deed c.by_rule.result c.in_ok-made.ensures.turn c.if-made.true
+      turn = turn_ruled w b c.args.lane c.in_ok-made.made c.rule_turn.new.deed c.by_rule.result c.in_ok-made.ensures.turn c.if-made.true
           c.by_rule.ensures.deed c.by_rule.ensures.acting c.by_rule.ensures.issued c.by_rule.ensures.carried;
     }
 
@@ -15,4 +15,4 @@ pub returns : goal.returns
 returns g c =
     let w = c.args.view.now in
     let b = g.B.References.books c.args.books.now in
-    record { turn = none_ruled w b c.args.lane _ c.rule_turn.new.deed c.in_ok-made.ensures.turn c.if-made.false }
+    record { turn = none_ruled w b c.args.lane c.in_ok-made.made c.rule_turn.new.deed c.in_ok-made.ensures.turn c.if-made.false }
