@@ -6,7 +6,7 @@ ghost use Rattle.com_model.specs.Formed.{Formed};
 ghost use Rattle.com_model.specs.State.{first_tables};
 ghost use Rattle.com_model.specs.Tables.{lanes};
 ghost use Rattle.com_servant.specs.Rows.{row};
-ghost use Rattle.com_runtime.specs.Standings.{ended_now, standing_of, Reached};
+ghost use Rattle.com_runtime.specs.Standings.{ended_now, Reached};
 ghost use Rattle.com_check.specs.Judging.{entry_line, IsJudged};
 ghost use Rattle.com_check.specs.Turning.{IsCompared, IsLast, IsLine, IsNextOf, IsOther, IsScheduled};
 ghost use Rattle.com_check.specs.Turning.{IsTold, IsTried, IsTurn, IsUnderWay, NamesNoLane, Ongoing};

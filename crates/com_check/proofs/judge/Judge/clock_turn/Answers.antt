@@ -1,6 +1,5 @@
-use Rattle.std.proofs.Common.{◌≡◌, ℕ, ◌+◌, ◌∙◌, Some, ap, arith}
+use Rattle.std.proofs.Common.{ℕ, ◌+◌, ◌∙◌, ap, arith}
 use Rattle.std.proofs.lemmas.Result.{IfOk-weaker}
-use Rattle.com_check.specs.Fronts.{named}
 use Rattle.com_check.specs.Judging.{entry_line}
 use Rattle.com_check.proofs.Judging.{names_zero, turn_settled, turn_unnamed, turn_without, when_none, when_not_next}
 use Rattle.com_check.proofs.judge.Judge.clock_turn.Goals as goal
