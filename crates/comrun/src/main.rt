@@ -37,6 +37,8 @@ fn main(rt: HostRuntime) -> ExitCode {
         Err(_) => return ExitCode::from(Status::Memory.code()),
     };
     match serve(&rt, rt.alloc(), words.as_slice(), &mut source, &mut sink) {
+        // A write that failed is the last one.
+        Ok(status) if status == Status::WriteFault.code() => ExitCode::from(status),
         Ok(status) => ExitCode::from(handed_on(&mut sink, status)),
         Err(_) => ExitCode::from(Status::Memory.code()),
     }
