@@ -7,6 +7,10 @@ ghost use Rattle.com_filter.specs.Answers.{pending_by, incoming_answer, retry_an
 
 use std::marker::Model;
 
+/// From this answer of a retry rule on a call waits for so many milliseconds before it is made again; from 0 to
+/// below it the call is made again at once. Source: IMessageFilter::RetryRejectedCall.
+pub const LEAST_DELAY_MS: u32 = 100;
+
 /// The answer to an incoming call.
 #[derive(Debug, Clone, Copy, PartialEq, Eq)]
 pub enum Verdict {

@@ -315,8 +315,8 @@ abbrev pub IsAsked : Option Verdict → Type 0
 IsAsked (Some verdict.Handled) = ⊥
 IsAsked _ = Unit {0}
 
--- The answer of a Retry rule: -1, which gives the call up, or 0 to `LAST_MS`, which posts it again: below 100 at once,
--- else after so many milliseconds.
+-- The answer of a Retry rule: -1, which gives the call up, or 0 to `LAST_MS`, which posts it again: below
+-- `LEAST_DELAY_MS` at once, else after so many milliseconds.
 abbrev pub IsRetryAnswer : ℤ → Type 0
 IsRetryAnswer (pos n) = n ≤ LAST_MS
 IsRetryAnswer (negsuc n) = n ≡ 0

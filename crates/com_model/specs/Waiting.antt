@@ -2,6 +2,7 @@
 use Rattle.std.specs.Prelude.{ℕ, zero, suc, ◌+◌, ℤ, pos, negsuc, Bool, true, false, not, ◌==◌, ◌&&◌, nat_lt}
 use Rattle.std.specs.Prelude.{nat_le, if◌then◌else◌, List, [], ◌∷◌, ◌++◌, Option, Some, None, filter, is_none}
 use Rattle.com_base.specs.declared.hresult.HResult.{HResult}
+use Rattle.com_filter.specs.declared.TheConstants.{LEAST_DELAY_MS}
 use Rattle.com_filter.specs.declared.Verdict.{Verdict}
 use Rattle.com_model.specs.declared.deeds.Deed.{Deed}
 use Rattle.com_model.specs.declared.deeds.Deed.TheVariants as deed
@@ -20,9 +21,9 @@ pub use Rattle.com_model.specs.declared.keeps.Word.{Word}
 pub use Rattle.com_model.specs.declared.keeps.Phase.{Phase}
 pub use Rattle.com_model.specs.declared.keeps.Phase.TheVariants.{Unposted, Queued, Judged, Delayed, GivenUp}
 
--- What a deed does to a posted call: an Out by post, an Again, and a Retry of 0 to 99 post it at the inbox's
--- end; a Verdict judges it; a Retry of 100 and more lets it wait until the clock has grown by that number;
--- one below 0 gives it up.
+-- What a deed does to a posted call: an Out by post, an Again, and a Retry from 0 to below `LEAST_DELAY_MS` post
+-- it at the inbox's end; a Verdict judges it; a Retry of `LEAST_DELAY_MS` and more lets it wait until the clock has
+-- grown by that number; one below 0 gives it up.
 pub data PostEffect : Type 0 where
   Posts : (call : ℕ) → PostEffect
   Judges : (call : ℕ) → Verdict → PostEffect
@@ -30,11 +31,11 @@ pub data PostEffect : Type 0 where
   GivesUp : (call : ℕ) → PostEffect
   PostsNone : PostEffect
 
--- What a Retry with this answer does: below 0 it gives the call up, from 0 to 99 it posts it again at once,
--- and from 100 on it delays it by that many milliseconds.
+-- What a Retry with this answer does: below 0 it gives the call up, from 0 to below `LEAST_DELAY_MS` it posts it
+-- again at once, and from there on it delays it by that many milliseconds.
 abbrev pub retries : (call : ℕ) → ℤ → PostEffect
 retries c (negsuc n) = GivesUp c
-retries c (pos n) = if nat_lt n 100 then Posts c else Delays c n
+retries c (pos n) = if nat_lt n LEAST_DELAY_MS then Posts c else Delays c n
 
 -- An Out by post, an Again, a Retry and a Verdict act on their call; every other deed acts on none.
 abbrev pub post_effect : Deed → PostEffect
