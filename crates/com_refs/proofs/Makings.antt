@@ -2,7 +2,7 @@
 use Rattle.std.proofs.Common.{◌≡◌, ℕ, zero, suc, Bool, true, false, eqb, cond, not, ◌&&◌, ◌||◌, ◌+◌, ◌<◌, ◌≤◌, List, [], ◌∷◌, ◌++◌, length, refl, sym, ap, ◌∙◌, arith, eqb-true}
 use Rattle.std.proofs.lemmas.Bool.{false_from_ne_true, eqb-false}
 use Rattle.std.proofs.lemmas.Grind.{common_steps}
-use Rattle.std.specs.Prelude.{map, sum_by, Option, Some, None, slice_index_or}
+use Rattle.std.specs.Prelude.{nat_lt, map, sum_by, Option, Some, None, slice_index_or}
 use Rattle.com_base.specs.declared.value.RefValue.{RefValue}
 use Rattle.com_packets.specs.declared.Packet as P
 use Rattle.com_proxy.specs.declared.ProxyRow.{ProxyRow}
@@ -19,9 +19,24 @@ use Rattle.com_refs_holders.proofs.Enrolls.{no_row_yet, object_before, direct_ne
 use Rattle.com_refs_holders.specs.declared.ObjectRow.{ObjectRow}
 use Rattle.com_refs.specs.Counts.{hold_of, hold_more, outside_of, IsCounted, IsCountedBut}
 use Rattle.com_refs.specs.declared.NewObject.{NewObject}
-use Rattle.com_refs.specs.Makes.{IsMade}
+use Rattle.com_refs.specs.Makes.{IsMade, IsNewObject}
 use Rattle.com_refs.proofs.Counteds.{more_is, more_length, at_most}
 use Rattle.com_refs.proofs.Steps.{live-row}
+
+-- ---- the new object is the next one
+
+pub next_of_new : (rows : List ObjectRow) (o : ℕ) → IsNewObject rows o → o ≡ length rows + 1
+next_of_new rows o new = elim (nat_lt (length rows + 1) o) as (λ b. nat_lt (length rows + 1) o ≡ b → o ≡ length rows + 1) [
+  | true ↦ λ h. absurd (grind (arith, common_steps, h, new.others (length rows + 1)))
+  | false ↦ λ h. grind (arith, common_steps, h, new.numbered, new.unmade)
+] refl
+
+pub new_of_next : (rows : List ObjectRow) (o : ℕ) → o ≡ length rows + 1 → IsNewObject rows o
+new_of_next rows o h = record {
+  numbered = omega (arith, h);
+  unmade = grind (arith, common_steps, h);
+  others = λ x some less. grind (arith, common_steps, h, some, less);
+}
 
 pub spare_counted : (t : Tables) (m : ℕ) (hs : List ℕ) → IsCounted t hs → IsCounted (record t { spare = m }) hs
 unfolding books_of

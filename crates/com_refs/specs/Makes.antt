@@ -1,11 +1,20 @@
 -- What making an object does.
-use Rattle.std.specs.Prelude.{◌≡◌, ℕ, ◌+◌, ◌≤◌, not, ◌==◌, ◌&&◌, ◌||◌, if◌then◌else◌, List, length, Some}
+use Rattle.std.specs.Prelude.{◌≡◌, ℕ, ◌+◌, ◌<◌, ◌≤◌, Bool, true, false, not, ◌==◌, ◌&&◌, ◌||◌}
+use Rattle.std.specs.Prelude.{if◌then◌else◌, List, length, Some}
 use Rattle.com_refs_books.specs.Changes.{changed, change, Makes}
 use Rattle.com_refs_books.specs.Counting.{count_if}
 use Rattle.com_refs_holders.specs.Places.{places_in}
 use Rattle.com_refs_holders.specs.Steps.{made_live, among}
-use Rattle.com_refs_holders.specs.Tables.{Tables, books_of, direct_in, made_in, offers, owner_in, owns_of}
+use Rattle.com_refs_holders.specs.declared.ObjectRow.{ObjectRow}
+use Rattle.com_refs_holders.specs.Tables.{Tables, books_of, direct_in, is_made, made_in, offers, owner_in, owns_of}
 use Rattle.com_refs.specs.declared.NewObject.{NewObject}
+
+-- The object is new: no object of its number was made. Objects are numbered from 1 on in the order in which they are
+-- made, so each of a lower number was made before it.
+pub record IsNewObject (rows : List ObjectRow) (o : ℕ) : Type 0 where
+  pub numbered : 0 < o
+  pub unmade : is_made rows o ≡ false
+  pub others : (x : ℕ) → 0 < x → x < o → is_made rows x ≡ true
 
 -- There is one object more, owned as its making says, with the interfaces of the set, and the apartment has a
 -- place for it: a direct one where it owns the object. All else is as it was.

@@ -64,7 +64,7 @@ pub struct RefCounts {
 /// A new object, and who holds it first.
 #[derive(Debug, Clone, Copy)]
 pub struct NewObject {
-    /// Its number, which is the next one.
+    /// Its number.
     pub object: u32,
     /// The apartment that owns it; 0 where every apartment does.
     pub owner: u32,

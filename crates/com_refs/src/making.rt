@@ -4,17 +4,16 @@ ghost use Rattle.std.specs.Prelude.{OnErr, IsOk};
 ghost use Rattle.com_refs_holders.specs.Tables.{books_of, owners_of, is_owned, SameSets};
 ghost use Rattle.com_refs_holders.specs.Steps.{among};
 ghost use Rattle.com_refs_books.specs.Changes.{cut};
-ghost use Rattle.com_refs.specs.Makes.{IsMade};
+ghost use Rattle.com_refs.specs.Makes.{IsMade, IsNewObject};
 
 use crate::holds::gain_hold;
 use crate::{MOST_INTERFACES, MOST_ISSUED, Memory, NewObject, Refs};
 
 impl Refs {
-    /// An object of the owner's is made, the next by its number, and the apartment has a place for it by an
-    /// interface of its set, of at most `MOST_INTERFACES`. In the owner's apartment the place is a direct
-    /// one; elsewhere a proxy has it, with 5 public references. The only error is want of memory, and then
-    /// nothing changed; it does not come where there is room for a call. Source: Essential COM, chapter 5, on
-    /// stubs.
+    /// A new object of the owner's is made, and the apartment has a place for it by an interface of its set, of
+    /// at most `MOST_INTERFACES`. In the owner's apartment the place is a direct one; elsewhere a proxy has it,
+    /// with `PUBLIC_REFERENCES` public references. The only error is want of memory, and then nothing changed; it
+    /// does not come where there is room for a call. Source: Essential COM, chapter 5, on stubs.
     pub fn made(
         &mut self,
         object: u32,
@@ -23,7 +22,7 @@ impl Refs {
         iface: u16,
         set: &[u16],
     ) -> Result<(), Memory>
-        requires new { object ≡ length self.old.objects + 1 }
+        requires new { IsNewObject self.old.objects object }
         requires small { length set.now ≤ MOST_INTERFACES }
         requires within { among iface set.now ≡ true }
         requires few { self.old.issued + 1 < MOST_ISSUED }
@@ -44,10 +43,9 @@ impl Refs {
         self.make_object(making, set)
     }
 
-    /// An object that every apartment owns is made, the next by its number, and the apartment has a direct
-    /// place for it. Its owner reads as the apartment 0. The only error is want of memory, and then nothing
-    /// changed; it does not come where there is room for a call. Source: the documentation of
-    /// CoCreateFreeThreadedMarshaler.
+    /// A new object that every apartment owns is made, and the apartment has a direct place for it. Its owner
+    /// reads as the apartment 0. The only error is want of memory, and then nothing changed; it does not come
+    /// where there is room for a call. Source: the documentation of CoCreateFreeThreadedMarshaler.
     pub fn made_agile(
         &mut self,
         object: u32,
@@ -55,7 +53,7 @@ impl Refs {
         iface: u16,
         set: &[u16],
     ) -> Result<(), Memory>
-        requires new { object ≡ length self.old.objects + 1 }
+        requires new { IsNewObject self.old.objects object }
         requires small { length set.now ≤ MOST_INTERFACES }
         requires within { among iface set.now ≡ true }
         requires few { self.old.issued + 1 < MOST_ISSUED }
@@ -76,10 +74,10 @@ impl Refs {
         self.make_object(making, set)
     }
 
-    /// An object is made, as `made` and `made_agile` say of one that an apartment owns and of one that every
+    /// A new object is made, as `made` and `made_agile` say of one that an apartment owns and of one that every
     /// apartment owns.
     pub fn make_object(&mut self, making: NewObject, set: &[u16]) -> Result<(), Memory>
-        requires new { making.object ≡ length self.old.objects + 1 }
+        requires new { IsNewObject self.old.objects making.object }
         requires small { length set.now ≤ MOST_INTERFACES }
         requires within { among making.iface set.now ≡ true }
         requires few { self.old.issued + 1 < MOST_ISSUED }
@@ -95,7 +93,7 @@ impl Refs {
 
     // Books the object as made, where there is room for its row.
     fn hold_made(&mut self, making: NewObject, set: &[u16])
-        requires new { making.object ≡ length self.old.objects + 1 }
+        requires new { IsNewObject self.old.objects making.object }
         requires small { length set.now ≤ MOST_INTERFACES }
         requires within { among making.iface set.now ≡ true }
         requires few { self.old.issued + 1 < MOST_ISSUED }

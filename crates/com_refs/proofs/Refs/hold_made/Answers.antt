@@ -5,13 +5,13 @@ use Rattle.com_refs_holders.specs.Tables.{owns_of, object_in}
 use Rattle.com_refs_holders.proofs.Enrolls.{direct_new}
 use Rattle.com_refs.specs.Counts.{hold_more}
 use Rattle.com_refs.proofs.Counteds.{more_length}
-use Rattle.com_refs.proofs.Makings.{made_but, made_counted, made_whole}
+use Rattle.com_refs.proofs.Makings.{made_but, made_counted, made_whole, next_of_new}
 use Rattle.com_refs.proofs.Refs.hold_made.Goals as goal
 
 pub invariant_of-self : goal.invariant_of-self
 invariant_of-self c =
     let t = c.self.inside.holders in
-    let new : c.args.making.object ≡ length t.objects + 1 = rw (← c.self.view_is) at c.requires.new in
+    let new : c.args.making.object ≡ length t.objects + 1 = next_of_new t.objects c.args.making.object (rw (← c.self.view_is) at c.requires.new) in
     let k : MadeWithPlace t c.make_object.new.self c.args.making.object c.args.making.owner c.args.making.agile c.args.set.now c.args.making.apartment c.args.making.iface = rw new c.make_object.ensures.made in
     let m = k.between in
     let hs = c.self.inside.holds.items in
@@ -31,6 +31,6 @@ pub returns-clause-made : goal.returns-clause-made
 returns-clause-made c =
     let t = c.self.inside.holders in
     let m = c.args.making in
-    let new : m.object ≡ length t.objects + 1 = rw (← c.self.view_is) at c.requires.new in
+    let new : m.object ≡ length t.objects + 1 = next_of_new t.objects m.object (rw (← c.self.view_is) at c.requires.new) in
     let k : MadeWithPlace t c.make_object.new.self m.object m.owner m.agile c.args.set.now m.apartment m.iface = rw new c.make_object.ensures.made in
     rw (← c.self.view_is) (made_whole t c.make_object.new.self m c.args.set.now new k)

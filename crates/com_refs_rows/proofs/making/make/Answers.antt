@@ -1,6 +1,7 @@
 use Rattle.std.proofs.Common.{[], ◌∷◌, refl, sym, ap, ◌∙◌}
 use Rattle.com_refs_holders.specs.Tables.{books_of, owns_of}
 use Rattle.com_model.specs.Tables.{has_agile_model}
+use Rattle.com_refs.proofs.Makings.{new_of_next}
 use Rattle.com_refs_rows.proofs.Fitting.{among_making, offers_more, small_making}
 use Rattle.com_refs_rows.proofs.Makings.{made_books, made_counts}
 use Rattle.com_refs_rows.specs.Books.{moved_to}
@@ -8,6 +9,9 @@ use Rattle.com_refs_rows.specs.Moving.{plus}
 use Rattle.com_refs_rows.proofs.Owning.{grown_one}
 use Rattle.com_refs_rows.proofs.Unholding.{made-more}
 use Rattle.com_refs_rows.proofs.making.make.Goals as goal
+
+pub make_object-requires-clause-new : goal.make_object-requires-clause-new
+make_object-requires-clause-new c = new_of_next c.args.refs.now.objects c.args.instance.now.held.object c.requires.made.next
 
 pub make_object-requires-clause-within : goal.make_object-requires-clause-within
 make_object-requires-clause-within c =
