@@ -1,6 +1,7 @@
 //! The single-threaded apartments that threads make.
 ghost use Rattle.std.specs.Prelude.{◌≡◌, ◌+◌, ◌<◌, ◌≤◌, ◌^◌, [], ◌∷◌, ◌++◌, not, filter, length, OnOk};
 ghost use Rattle.std.specs.Prelude.{IfOk, slice_index_or, slice_set};
+ghost use Rattle.com_base.specs.declared.apartments.TheConstants.{FIRST_STA};
 ghost use Rattle.com_model.specs.Apartments.{or_host};
 ghost use Rattle.com_model.specs.Lists.{first, is_member, tabulated};
 ghost use Rattle.com_lane_lists.specs.Rooms.{HasRow, no_number, numbers_in};
@@ -18,7 +19,7 @@ struct Sta {
     is_gone: bool,
 }
 
-/// The single-threaded apartments that threads made, numbered from 3 in the order of making. Seen as those
+/// The single-threaded apartments that threads made, numbered from `FIRST_STA` on in the order of making. Seen as those
 /// of each lane, as all of them, and as those that ended, with how many of each there is room for.
 #[derive(Debug, Drop)]
 pub struct Stas {
@@ -89,8 +90,8 @@ impl Stas {
         ensures { self.new.tables ≡ record {
           made =
               slice_set self.old.tables.made lane
-              (slice_index_or self.old.tables.made lane [] ++ (length self.old.tables.stas + 3) ∷ []);
-          stas = self.old.tables.stas ++ (length self.old.tables.stas + 3) ∷ [];
+              (slice_index_or self.old.tables.made lane [] ++ (length self.old.tables.stas + FIRST_STA) ∷ []);
+          stas = self.old.tables.stas ++ (length self.old.tables.stas + FIRST_STA) ∷ [];
           ended = self.old.tables.ended;
         } }
     {
@@ -104,7 +105,7 @@ impl Stas {
 
     /// One ends, the host's or one that was made.
     pub fn end(&mut self, apartment: u32)
-        requires number { apartment < length self.old.tables.stas + 3 }
+        requires number { apartment < length self.old.tables.stas + FIRST_STA }
         requires room { length self.old.tables.ended < self.old.over }
         ensures { self.new.tables
             ≡ record self.old.tables { ended = self.old.tables.ended ++ apartment ∷ [] } }
@@ -120,7 +121,7 @@ impl Stas {
     /// The number of the next one.
     pub fn next(&self) -> u32
         requires { length self.now.tables.stas + 4 ≤ 2 ^ 32 }
-        ensures { result ≡ length self.now.tables.stas + 3 }
+        ensures { result ≡ length self.now.tables.stas + FIRST_STA }
     {
         FIRST_STA + self.rows.len() as u32
     }

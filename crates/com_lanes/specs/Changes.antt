@@ -1,6 +1,7 @@
 -- What a deed changes in single columns of the lanes, by the parts of the deed that a column looks at.
 use Rattle.std.specs.Prelude.{ℕ, ◌+◌, ◌≤◌, ◌<◌, ◌^◌, ◌≡◌, ℤ, pos, negsuc, Bool, true, false, List, [], ◌∷◌, length}
 use Rattle.std.specs.Prelude.{Option, Some, None, slice_index_or, slice_set}
+use Rattle.com_base.specs.declared.apartments.TheConstants.{FIRST_STA}
 use Rattle.com_base.specs.declared.hresult.HResult.{HResult}
 use Rattle.com_model.specs.declared.deeds.Deed.{Deed}
 use Rattle.com_model.specs.declared.keeps.Opener.{Opener}
@@ -41,8 +42,8 @@ IsBelow n (Some m) = m < n
 -- The STA that a deed makes is the next one, and the one that it ends is among those that were made, or the
 -- host's. It is so with each deed that the rules give.
 pub record NamesStas (t : LaneTables) (d : Deed) : Type 0 where
-  pub next : IsNumber (length t.stas + 3) (makes_sta d)
-  pub made : IsBelow (length t.stas + 3) (ends_sta d)
+  pub next : IsNumber (length t.stas + FIRST_STA) (makes_sta d)
+  pub made : IsBelow (length t.stas + FIRST_STA) (ends_sta d)
 
 -- One more entry can be counted in each lane.
 pub record HasRoom (t : LaneTables) : Type 0 where

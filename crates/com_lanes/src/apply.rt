@@ -1,6 +1,7 @@
 //! What an entry changes in the lanes.
 ghost use Rattle.std.specs.Prelude.{◌≡◌, ◌+◌, [], ◌∷◌, false, true, not, if◌then◌else◌};
 ghost use Rattle.std.specs.Prelude.{length, IsOk, OnOk, OnErr, None, Some, slice_index_or, slice_set};
+ghost use Rattle.com_base.specs.declared.apartments.TheConstants.{FIRST_STA};
 ghost use Rattle.com_model.specs.Answers.{is_S_OK};
 ghost use Rattle.com_model.specs.Apartments.{Initialises, Uninitialises, home_after, count_after, makes_sta};
 ghost use Rattle.com_model.specs.Apartments.{ends_sta, with_last};
@@ -164,7 +165,7 @@ impl Lanes {
 
     // A lane is initialised, or refused.
     fn initialise(&mut self, lane: u32, mode: Mode, home: u32, hr: HResult)
-        requires next { IsNumber (length self.old.tables.stas + 3) (makes_sta (Deed.Init mode home hr)) }
+        requires next { IsNumber (length self.old.tables.stas + FIRST_STA) (makes_sta (Deed.Init mode home hr)) }
         requires room { HasRoom self.old.tables }
         requires space { HasSta self.old.stas lane (makes_sta (Deed.Init mode home hr)) }
         ensures { self.new.tables ≡ record self.old.tables {
@@ -187,7 +188,7 @@ impl Lanes {
 
     // A lane is uninitialised.
     fn uninitialise(&mut self, lane: u32, home: Option<u32>, count: u32)
-        requires below { IsBelow (length self.old.tables.stas + 3) (ends_sta (Deed.Uninit home count)) }
+        requires below { IsBelow (length self.old.tables.stas + FIRST_STA) (ends_sta (Deed.Uninit home count)) }
         requires space { HasEnd self.old.stas (ends_sta (Deed.Uninit home count)) }
         ensures { self.new.tables ≡ record self.old.tables {
           homes =

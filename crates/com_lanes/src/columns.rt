@@ -1,6 +1,7 @@
 //! One row of a table that has a row for each lane. A lane that has no row changes nothing.
 ghost use Rattle.std.specs.Prelude.{◌≡◌, ℕ, ◌+◌, ◌<◌, ◌≤◌, ◌^◌, length, ◌∷◌, [], false, if◌then◌else◌};
 ghost use Rattle.std.specs.Prelude.{IsOk, Option, OnOk, slice_index_or, slice_set};
+ghost use Rattle.com_base.specs.declared.apartments.TheConstants.{FIRST_STA};
 ghost use Rattle.com_model.specs.Answers.{is_S_OK};
 ghost use Rattle.com_model.specs.Apartments.{Initialises, Uninitialises, home_after, count_after, makes_sta};
 ghost use Rattle.com_model.specs.Apartments.{ends_sta, with_last};
@@ -290,7 +291,7 @@ pub(crate) fn reserve_sta(
 
 // A lane that is initialised makes an apartment where it asks for one of its own and the answer is S_OK.
 pub(crate) fn make_sta(stas: &mut Stas, lane: u32, mode: Mode, home: u32, hr: HResult)
-    requires next { IsNumber (length stas.old.tables.stas + 3) (makes_sta (Deed.Init mode home hr)) }
+    requires next { IsNumber (length stas.old.tables.stas + FIRST_STA) (makes_sta (Deed.Init mode home hr)) }
     requires number { length stas.old.tables.stas + 4 ≤ 2 ^ 32 }
     requires room { HasSta stas.old lane (makes_sta (Deed.Init mode home hr)) }
     ensures { stas.new.tables ≡ stas_made stas.old.tables lane (makes_sta (Deed.Init mode home hr)) }
@@ -328,7 +329,7 @@ pub(crate) fn reserve_end(stas: &mut Stas, home: Option<u32>, count: u32) -> Res
 
 // The apartment of a lane ends where this is left of the lane's initialisations.
 pub(crate) fn end_sta(stas: &mut Stas, home: Option<u32>, count: u32)
-    requires below { IsBelow (length stas.old.tables.stas + 3) (ends_sta (Deed.Uninit home count)) }
+    requires below { IsBelow (length stas.old.tables.stas + FIRST_STA) (ends_sta (Deed.Uninit home count)) }
     requires room { HasEnd stas.old (ends_sta (Deed.Uninit home count)) }
     ensures { stas.new.tables ≡ record stas.old.tables {
       ended = with_last stas.old.tables.ended (ends_sta (Deed.Uninit home count));

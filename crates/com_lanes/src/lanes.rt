@@ -1,6 +1,7 @@
 //! The lanes of a core and what is read of them.
 ghost use Rattle.std.specs.Prelude.{◌≡◌, ◌+◌, ◌<◌, ◌≤◌, ◌^◌, [], false, not, filter, length, reverse};
 ghost use Rattle.std.specs.Prelude.{IfOk, None, slice_get, slice_index_or};
+ghost use Rattle.com_base.specs.declared.apartments.TheConstants.{FIRST_STA};
 ghost use Rattle.com_model.specs.Apartments.{or_host};
 ghost use Rattle.com_model.specs.Lists.{first, is_member, tabulated};
 ghost use Rattle.com_model.specs.Openers.{running_call, running_object, entered_apartment, open_calls};
@@ -241,7 +242,7 @@ impl Lanes {
     /// The number of the next single-threaded apartment that a thread makes.
     pub fn next_sta(&self) -> u32
         requires { length self.now.tables.stas + 4 ≤ 2 ^ 32 }
-        ensures { result ≡ length self.now.tables.stas + 3 }
+        ensures { result ≡ length self.now.tables.stas + FIRST_STA }
     {
         self.stas.next()
     }

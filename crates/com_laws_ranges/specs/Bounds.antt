@@ -1,6 +1,7 @@
 -- How far the counters of a core can have come, and what each entry that the rules give asks of them.
 use Rattle.std.specs.Prelude.{◌≡◌, ℕ, ◌+◌, ◌-◌, ◌*◌, ◌^◌, ◌<◌, ◌≤◌, length, Option, Some, None}
 use Rattle.std.specs.Prelude.{slice_index_or}
+use Rattle.com_base.specs.declared.limits.TheConstants.{PARAMETER_LIMIT, PUBLIC_REFERENCES}
 use Rattle.com_body.specs.declared.frame.Outcome.{Outcome}
 use Rattle.com_lanes.specs.Changes.{NamesStas, HasRoom}
 use Rattle.com_model.specs.declared.deeds.Deed.{Deed}
@@ -13,8 +14,8 @@ use Rattle.com_objects.specs.Kept.{IsMade}
 use Rattle.com_scene.specs.Ranges.{WritesInRange}
 use Rattle.com_state.specs.Parts.{lanes_of}
 
--- Of a state after so many entries: each makes one call, object, STA, cookie or opener at most, and 4
--- packets, and gives 20 public references at most.
+-- Of a state after so many entries: each makes one call, object, STA, cookie or opener at most, and a packet for each
+-- parameter of a method, and gives at most the public references that so many packets carry.
 pub record Counted (st : State) (n : ℕ) : Type 0 where
   pub calls : length st.issues ≤ n
   pub objects : length st.makings ≤ n
@@ -24,11 +25,11 @@ pub record Counted (st : State) (n : ℕ) : Type 0 where
   pub served : (l : ℕ) → served_in st l ≤ n
   pub counts : (l : ℕ) → slice_index_or st.counts l 0 ≤ n
   pub posted : (l : ℕ) → (slice_index_or st.mail l no_mail).posted ≤ n
-  pub packets : length (books_in st).packets ≤ 4 * n
+  pub packets : length (books_in st).packets ≤ PARAMETER_LIMIT * n
   pub cookies : length (books_in st).cookies ≤ n
-  pub proxies : (a o i : ℕ) → (books_in st).proxy a o i ≤ 20 * n
+  pub proxies : (a o i : ℕ) → (books_in st).proxy a o i ≤ PARAMETER_LIMIT * PUBLIC_REFERENCES * n
 
--- One more of each fits the types that count them, and 4 more packets.
+-- One more of each fits the types that count them, and so many more packets as a method may have parameters.
 pub record HasPlace (st : State) : Type 0 where
   pub lanes : HasRoom (lanes_of st)
   pub openers : (l : ℕ) → length (openers_in st l) + 1 < 2 ^ 32
@@ -36,7 +37,7 @@ pub record HasPlace (st : State) : Type 0 where
   pub calls : length st.issues + 1 < 2 ^ 32
   pub causes : st.causes + 1 < 2 ^ 32
   pub objects : length st.makings + 1 < 2 ^ 32
-  pub packets : length (books_in st).packets + 4 < 2 ^ 32
+  pub packets : length (books_in st).packets + PARAMETER_LIMIT < 2 ^ 32
   pub cookies : length (books_in st).cookies + 1 < 2 ^ 32
 
 -- A call that waits for a time or is posted again was issued.

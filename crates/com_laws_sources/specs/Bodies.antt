@@ -15,16 +15,17 @@ use Rattle.com_body.specs.declared.operands.Code.TheVariants as code
 use Rattle.com_body.specs.declared.operands.Given.{Given}
 use Rattle.com_body.specs.declared.operands.Given.TheVariants as given
 use Rattle.com_body.specs.declared.operands.Destination.TheVariants as destination
+use Rattle.com_model.specs.Answers.{S_OK, E_POINTER}
 
 -- ---- the HRESULTs, of which the runtime names the first two alone
 
 -- S_OK: the source did what it was asked.
 abbrev pub ok : HResult
-ok = record { 0 = 0 }
+ok = S_OK
 
 -- E_POINTER: the sink that `advise` was given is null.
 abbrev pub e_pointer : HResult
-e_pointer = record { 0 = 0x80004003 }
+e_pointer = E_POINTER
 
 -- CONNECT_E_NOCONNECTION: no sink has the cookie.
 abbrev pub no_connection : HResult

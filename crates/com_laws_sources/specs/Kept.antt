@@ -1,6 +1,7 @@
 -- How the cells of a source keep its sinks.
 use Rattle.std.specs.Prelude.{◌≡◌, ℕ, zero, suc, ◌≤◌, ◌<◌, ◌^◌, ℤ, pos, List, [], ◌∷◌, ◌++◌, Option, None}
 use Rattle.std.specs.Prelude.{length}
+use Rattle.com_base.specs.declared.limits.TheConstants.{LINK_COUNT}
 use Rattle.com_base.specs.declared.value.RefValue.{RefValue}
 use Rattle.com_body.specs.declared.frame.Cells.{Cells}
 use Rattle.com_laws_sources.specs.Sinks.{Sink}
@@ -24,12 +25,12 @@ Rising before last (x ∷ xs) = (before < x.cookie) × Rising x.cookie last xs
 
 -- Cells 0 to 3 are the cookies, and links 0 to 3 the sinks; cell 4 is the cookie that was given last.
 abbrev pub cells_of : List Sink → (last : ℕ) → List ℤ → Cells
-cells_of sinks last rest = record { numbers = cookies 4 sinks ++ (pos last ∷ rest); links = links 4 sinks }
+cells_of sinks last rest = record { numbers = cookies LINK_COUNT sinks ++ (pos last ∷ rest); links = links LINK_COUNT sinks }
 
 -- The cells keep these sinks, where this is the cookie that was given last.
 pub record Keeps (c : Cells) (sinks : List Sink) (last : ℕ) : Type 0 where
   pub rest : List ℤ
   pub cells : c ≡ cells_of sinks last rest
-  pub few : length sinks ≤ 4
+  pub few : length sinks ≤ LINK_COUNT
   pub rising : Rising 0 last sinks
   pub fits : last < 2 ^ 63

@@ -3,6 +3,7 @@
 
 ghost use Rattle.std.specs.Prelude.{◌≡◌, ◌↔◌, ◌⊎◌, ℕ, ◌+◌, ◌≤◌, ◌<◌, ◌^◌, ℤ, pos, int_lt, true, false};
 ghost use Rattle.std.specs.Prelude.{length, List, [], ◌∷◌, ◌++◌, Some, None};
+ghost use Rattle.com_base.specs.declared.limits.TheConstants.{LINK_COUNT};
 ghost use Rattle.com_base.specs.declared.value.RefValue.{RefValue};
 ghost use Rattle.com_base.specs.declared.value.Value.{Value};
 ghost use Rattle.com_base.specs.declared.value.Value.TheVariants as value;
@@ -40,10 +41,10 @@ pub fn advising()
     ensures null { (c : Cells) (sinks : List Sink) (last : ℕ) → Keeps c sinks last
         → Leaves (alone advise_body 1 (entered (value.Ref None ∷ [])) c) e_pointer None sinks last }
     ensures full { (c : Cells) (sinks : List Sink) (last : ℕ) (sink : RefValue) → Keeps c sinks last
-        → length sinks ≡ 4 → Leaves (alone advise_body 1 (entered (value.Ref
+        → length sinks ≡ LINK_COUNT → Leaves (alone advise_body 1 (entered (value.Ref
         (Some sink) ∷ [])) c) advise_limit None sinks last }
     ensures taken { (c : Cells) (sinks : List Sink) (last : ℕ) (sink : RefValue) → Keeps c sinks last
-        → length sinks < 4 → last + 1 < 2 ^ 63
+        → length sinks < LINK_COUNT → last + 1 < 2 ^ 63
         → Leaves (alone advise_body 1 (entered (value.Ref (Some sink) ∷ [])) c) ok (Some (number
         (last + 1))) (sinks ++ (record { cookie = last + 1; held = Some sink } ∷ [])) (last + 1) }
 {}
@@ -78,11 +79,11 @@ pub fn firing()
     ensures begins { (c : Cells) (sinks : List Sink) (last : ℕ) (n : ℤ) → Keeps c sinks last
         → Begins c n last }
     ensures round { (c : Cells) (sinks : List Sink) (given sent : ℕ) (event : Value) (last reached : ℕ)
-        (f : FrameView) → Keeps c sinks given → AtRound f sent event last reached → sent < 4
+        (f : FrameView) → Keeps c sinks given → AtRound f sent event last reached → sent < LINK_COUNT
         → Fires (alone fire_body 1 f c) sent event last sinks given (first_between reached last sinks) }
     ensures over { (c : Cells) (sinks : List Sink) (given : ℕ) (event : Value) (last reached : ℕ)
-        (f : FrameView) → Keeps c sinks given → AtRound f 4 event last reached
-        → Leaves (alone fire_body 1 f c) ok (Some (number 4)) sinks given }
+        (f : FrameView) → Keeps c sinks given → AtRound f LINK_COUNT event last reached
+        → Leaves (alone fire_body 1 f c) ok (Some (number LINK_COUNT)) sinks given }
     ensures written { (sent : ℕ) (event v : Value) (last reached : ℕ) (f : FrameView)
         → AtRound f sent event last reached → AtRound (with_register f 7 v) sent event last reached
         × AtRound (with_register f 15 v) sent event last reached }

@@ -1,6 +1,7 @@
 //! The change of the books by an entry.
 ghost use Rattle.std.specs.Prelude.{◌≡◌, ◌+◌, ◌<◌, ◌≤◌, ◌^◌, ℕ, [], false, true, if◌then◌else◌, IsTrue};
 ghost use Rattle.std.specs.Prelude.{OnErr, OnOk, List, length, take, vec_len, vec_capacity};
+ghost use Rattle.com_base.specs.declared.limits.TheConstants.{PARAMETER_LIMIT};
 ghost use Rattle.com_refs_holders.specs.Places.{Counts, SamePlaces};
 ghost use Rattle.com_refs_holders.specs.Tables.{books_of, offers};
 ghost use Rattle.com_model.specs.Lists.{is_member, number_or_zero};
@@ -120,7 +121,7 @@ impl Books {
     // The packets of a call's arguments that an Enter reads.
     fn arguments_of(&self, deed: &Deed) -> u32
         ensures value { result ≡ asked_packets self.now.calls deed.now }
-        ensures few { result ≤ 4 }
+        ensures few { result ≤ PARAMETER_LIMIT }
     {
         match deed {
             Deed::Enter { call, .. } => self.calls.get(*call).count,
@@ -136,7 +137,7 @@ impl Books {
         gained: &[Move],
         lost: &[Move],
     ) -> Result<(), Memory>
-        requires carried { length context.carried.now ≤ 4 }
+        requires carried { length context.carried.now ≤ PARAMETER_LIMIT }
         requires gained { length gained.now ≤ most_gained }
         requires numbers { self.old.refs.issued + most_given ≤ MOST_ISSUED }
         ensures refs { self.new.refs ≡ record self.old.refs { spare = self.new.refs.spare } }
@@ -177,7 +178,7 @@ impl Books {
         requires deed { FitsDeed deed.now }
         requires fits { FitsRow context.classes.now context.carried.now apartment
             (tally self.old.refs self.old.calls) deed.now }
-        requires carried { length context.carried.now ≤ 4 }
+        requires carried { length context.carried.now ≤ PARAMETER_LIMIT }
         requires few { self.old.refs.issued
             + row_steps self.old.calls context.carried.now deed.now < MOST_ISSUED }
         requires room { row_steps self.old.calls context.carried.now deed.now ≤ self.old.refs.spare }
@@ -260,7 +261,7 @@ impl Books {
     ) -> Result<(), Memory>
         requires fits { FitsRow context.classes.now context.carried.now apartment
             (tally self.old.refs self.old.calls) deed.now }
-        requires carried { length context.carried.now ≤ 4 }
+        requires carried { length context.carried.now ≤ PARAMETER_LIMIT }
         requires few { self.old.refs.issued
             + row_steps self.old.calls context.carried.now deed.now < MOST_ISSUED }
         requires room { row_steps self.old.calls context.carried.now deed.now ≤ self.old.refs.spare }

@@ -2,6 +2,7 @@
 -- that it makes.
 use Rattle.std.specs.Prelude.{ℕ, zero, ◌≤◌, Bool, false, not, ◌&&◌, ◌==◌, if◌then◌else◌, List, []}
 use Rattle.std.specs.Prelude.{◌∷◌, ◌++◌, map, Option, Some, None, length, slice_index_or, slice_set}
+use Rattle.com_base.specs.declared.limits.TheConstants.{PARAMETER_LIMIT}
 use Rattle.com_base.specs.declared.value.RefValue.{RefValue}
 use Rattle.com_base.specs.declared.value.Value.{Value}
 use Rattle.com_body.specs.declared.actions.Action.{Action}
@@ -133,9 +134,9 @@ pub record FramesWhole (t : SceneTables) : Type 0 where
   pub scripts : (l : ℕ) → HasSlots (script_at t l)
   pub bodies : BodiesWhole t
 
--- A method has at most 4 parameters.
+-- An Enter has no more values than a method may have parameters.
 abbrev pub FewValues : Deed → Type 0
-FewValues (deed.Enter c o a k vs) = length vs ≤ 4
+FewValues (deed.Enter c o a k vs) = length vs ≤ PARAMETER_LIMIT
 FewValues _ = Unit {0}
 
 -- ---- what arrives, by the slots and links after the step

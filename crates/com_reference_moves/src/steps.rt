@@ -9,7 +9,7 @@ ghost use Rattle.com_reference_moves.specs.Steps.{has_frame_of, is_on, slots_wit
 ghost use Rattle.com_reference_moves.specs.Steps.{slots_stepped, links_stepped, FrameWhole, IsWhole};
 
 use crate::written::{Written, written_by};
-use com_base::RefValue;
+use com_base::{LINK_COUNT, RefValue, SLOT_COUNT};
 use com_body::{Frame, Outcome, Place};
 use com_model::Deed;
 use com_scene::{Actor, Scene};
@@ -97,7 +97,7 @@ fn write_slot(slots: &mut [Option<RefValue>; 8], written: Option<Written>)
     let Place::Slot(number) = place else {
         return;
     };
-    if number < 8 {
+    if number < SLOT_COUNT {
         slots[number as usize] = held;
     }
 }
@@ -113,7 +113,7 @@ fn write_link(links: &mut [Option<RefValue>; 4], written: Option<Written>)
     let Place::Link(number) = place else {
         return;
     };
-    if number < 4 {
+    if number < LINK_COUNT {
         links[number as usize] = held;
     }
 }

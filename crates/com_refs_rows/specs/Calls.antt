@@ -1,6 +1,7 @@
 -- The packets that carry the arguments and the result of each call.
 use Rattle.std.specs.Prelude.{ℕ, zero, suc, ◌+◌, ◌<◌, ◌≤◌, ◌^◌, List, slice_index_or, Option, Some, None}
 use Rattle.std.specs.List.{AllByRecursion}
+use Rattle.com_base.specs.declared.limits.TheConstants.{PARAMETER_LIMIT}
 use Rattle.com_refs_books.specs.Changes.{set_from_one}
 use Rattle.com_refs_books.specs.Counting.{numbers_from}
 use Rattle.com_refs_rows.specs.declared.calls.CallPackets.{CallPackets}
@@ -34,9 +35,9 @@ arguments_in rows c = arguments_of (call_at rows c)
 abbrev pub result_in : List CallPackets → ℕ → Option ℕ
 result_in rows c = number_of (call_at rows c).result
 
--- Numbers of packets have 32 bits, and the arguments of a call have 4 packets at most.
+-- Numbers of packets have 32 bits, and a call has no more argument packets than a method may have parameters.
 abbrev pub IsNumbered : CallPackets → Type 0
-IsNumbered row = (row.first + row.count < 2 ^ 32) × (row.count ≤ 4)
+IsNumbered row = (row.first + row.count < 2 ^ 32) × (row.count ≤ PARAMETER_LIMIT)
 
 abbrev pub AreNumbered : List CallPackets → Type 0
 AreNumbered rows = AllByRecursion IsNumbered rows

@@ -1,5 +1,6 @@
 //! The packets of each call.
 ghost use Rattle.std.specs.Prelude.{◌≡◌, ◌+◌, ◌<◌, ◌≤◌, ◌^◌, List, [], ◌∷◌, ◌++◌, length, OnOk, OnErr};
+ghost use Rattle.com_base.specs.declared.limits.TheConstants.{PARAMETER_LIMIT};
 ghost use Rattle.com_refs_rows.specs.declared.calls.CallPackets.{CallPackets};
 ghost use Rattle.com_refs_rows.specs.Calls.{call_at, no_packets, with_result};
 
@@ -65,7 +66,7 @@ impl CallTable {
     pub fn get(&self, call: u32) -> CallPackets
         ensures row { result ≡ call_at self.now call }
         ensures fits { result.first + result.count < 2 ^ 32 }
-        ensures few { result.count ≤ 4 }
+        ensures few { result.count ≤ PARAMETER_LIMIT }
     {
         match call.checked_sub(1) {
             None => NO_PACKETS,
@@ -85,11 +86,11 @@ impl CallTable {
         Ok(())
     }
 
-    /// The packets of the arguments of the last call, which had none: 4 at most, since no method has more
+    /// The packets of the arguments of the last call, which had none: no more than a method may have
     /// parameters. Numbers past the last one that there is are none.
     pub fn set_last(&mut self, first: u32, count: u32)
         requires fits { first + count < 2 ^ 32 }
-        requires few { count ≤ 4 }
+        requires few { count ≤ PARAMETER_LIMIT }
         ensures { (rows : List CallPackets) → self.old ≡ rows ++ no_packets ∷ []
             → self.new ≡ rows ++ record { first = first; count = count; result = 0 } ∷ [] }
     {

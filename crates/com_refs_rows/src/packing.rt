@@ -2,6 +2,7 @@
 ghost use Rattle.std.specs.Prelude.{◌≡◌, ◌+◌, ◌-◌, ◌<◌, ◌≤◌, ◌^◌, ℕ, None, OnErr, OnOk};
 ghost use Rattle.std.specs.Prelude.{length, map};
 ghost use Rattle.std.specs.Prelude.{vec_len, vec_capacity};
+ghost use Rattle.com_base.specs.declared.limits.TheConstants.{PARAMETER_LIMIT};
 ghost use Rattle.com_refs_books.specs.Changes.{Unmarshals, marshal_all, entered_rows};
 ghost use Rattle.com_refs_holders.specs.Tables.{books_of, offers, owns_of};
 ghost use Rattle.com_model.specs.Endings.{is_leave};
@@ -57,7 +58,7 @@ fn pack(refs: &mut Refs, apartment: u32, carried: &[RefValue]) -> (u32, u32)
     (before + 1, after.saturating_sub(before))
 }
 
-/// The next call is issued, and its arguments' references are marshalled: 4 at most, since no method has more
+/// The next call is issued, and its arguments' references are marshalled: no more than a method may have
 /// parameters. The only error is want of memory.
 pub fn issue(
     refs: &mut Refs,
@@ -66,7 +67,7 @@ pub fn issue(
     carried: &[RefValue],
 ) -> Result<(), Memory>
     requires known { AllKnown refs.old carried.now }
-    requires args { length carried.now ≤ 4 }
+    requires args { length carried.now ≤ PARAMETER_LIMIT }
     requires few { refs.old.issued + length carried.now < MOST_ISSUED }
     requires room { length carried.now ≤ refs.old.spare }
     ensures rows { OnOk result (Marshalled (marshal_all apartment carried.now) refs.old refs.new) }

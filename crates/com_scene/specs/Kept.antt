@@ -1,5 +1,6 @@
 -- What holds of the tables of every scene.
 use Rattle.std.specs.Prelude.{◌≡◌, ℕ, List, Option, Some, None, All, length, slice_index_or}
+use Rattle.com_base.specs.declared.limits.TheConstants.{SLOT_COUNT}
 use Rattle.com_body.specs.declared.frame.Outcome.{Outcome}
 use Rattle.com_body.specs.Bodies.{IsDestination}
 use Rattle.com_body.specs.Frames.{FrameView}
@@ -7,9 +8,9 @@ use Rattle.com_model.specs.Frames.{Actor as Acting, Script}
 use Rattle.com_model.specs.State.{SceneTables}
 use Rattle.com_scene.specs.Ranges.{WritesInRange}
 
--- A frame has 8 slots.
+-- A frame has all of its slots.
 abbrev pub HasSlots : FrameView → Type 0
-HasSlots f = length f.slots ≡ 8
+HasSlots f = length f.slots ≡ SLOT_COUNT
 
 -- Each script has 8 slots, and the result of each call goes to a register or a slot that there is, or
 -- nowhere.

@@ -1,5 +1,6 @@
 -- A scene before the first entry, and the frame of whoever acts in a scene.
 use Rattle.std.specs.Prelude.{ℕ, ◌+◌, []}
+use Rattle.com_base.specs.declared.limits.TheConstants.{BUFFER_COUNT}
 use Rattle.com_body.specs.declared.operands.Destination.TheVariants as destination
 use Rattle.com_body.specs.Frames.{FrameView, entered}
 use Rattle.com_body.specs.Operands.{new_cells}
@@ -14,7 +15,7 @@ new_scene n = record {
   scripts = tabulated (n + 1) (λ l. entered []);
   bodies = tabulated 1 (λ c. entered []);
   cells = tabulated 1 (λ o. new_cells);
-  buffers = tabulated 64 (λ b. []);
+  buffers = tabulated BUFFER_COUNT (λ b. []);
   destinations = tabulated 1 (λ c. destination.Nowhere);
 }
 

@@ -1,5 +1,6 @@
 //! What an entry changes beside the step of whoever acts.
 ghost use Rattle.std.specs.Prelude.{◌≡◌, if◌then◌else◌, Some, None, [], ◌∷◌, fold, replicate, slice_index_or};
+ghost use Rattle.com_base.specs.declared.limits.TheConstants.{SLOT_COUNT};
 ghost use Rattle.com_body.specs.Bodies.{IsDestination};
 ghost use Rattle.com_body.specs.Frames.{entered};
 ghost use Rattle.com_model.specs.Frames.{to_answer, to_destination};
@@ -111,7 +112,7 @@ impl Tables {
     pub fn clear_script(&mut self, lane: u32)
         requires { IsKept (seen self.old) }
         ensures { seen self.new ≡ with_script (seen self.old) lane
-            (record (script_at (seen self.old) lane) { slots = replicate 8 None }) }
+            (record (script_at (seen self.old) lane) { slots = replicate SLOT_COUNT None }) }
     {
         if (lane as usize) < self.scripts.len() {
             clear_slots(&mut self.scripts[lane as usize]);

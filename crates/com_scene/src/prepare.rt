@@ -1,6 +1,7 @@
 //! The memory that an entry takes.
 ghost use Rattle.std.specs.Prelude.{◌≡◌, ◌≤◌, IfOk, IsErr, MatchResult, OnOk, [], false, length};
 ghost use Rattle.std.specs.Prelude.{slice_index_or};
+ghost use Rattle.com_base.specs.declared.limits.TheConstants.{PARAMETER_LIMIT};
 ghost use Rattle.com_body.specs.Frames.{entered};
 ghost use Rattle.com_scene.specs.Actors.{acting_of};
 ghost use Rattle.com_scene.specs.Prepared.{HasBody, HasRowFor, HasSeatAfter, IsPrepared, IsTaken};
@@ -87,7 +88,7 @@ fn take_value(deed: &Deed, value: &mut Option<Value>) -> Result<(), Memory>
 
 // A frame with values, on the heap. The only error is want of memory.
 fn new_seat(alloc: Global, values: &[Value]) -> Result<Seat, Memory>
-    requires { length values.now ≤ 4 }
+    requires { length values.now ≤ PARAMETER_LIMIT }
     ensures { IfOk result (λ seat. seat ≡ entered values.now) }
 {
     let frame = Frame::enter(alloc, values)?;

@@ -1,5 +1,6 @@
 //! The tables of the scene: a row for each lane, call, object and buffer.
 ghost use Rattle.std.specs.Prelude.{◌≡◌, ◌<◌, IfOk, Some, None, IsSome, [], ◌∷◌, fold, is_some, replicate};
+ghost use Rattle.com_base.specs.declared.limits.TheConstants.{SLOT_COUNT};
 ghost use Rattle.com_body.specs.Bodies.{IsDestination};
 ghost use Rattle.com_body.specs.Frames.{entered};
 ghost use Rattle.com_model.specs.Frames.{to_answer, to_destination};
@@ -44,7 +45,7 @@ pub fn receive(frame: &mut Frame, hr: HResult, to: Destination, value: Option<Va
 #[tactic(auto, using(crate::proofs::RowLemmas::nulls_more, crate::proofs::RowLemmas::nulls_all))]
 pub fn clear_slots(frame: &mut Frame)
     requires { HasSlots frame.old }
-    ensures { frame.new ≡ record frame.old { slots = replicate 8 None } }
+    ensures { frame.new ≡ record frame.old { slots = replicate SLOT_COUNT None } }
 {
     for number in 0u8..8 {
         frame.set_slot(number, None);

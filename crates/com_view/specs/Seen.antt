@@ -1,6 +1,7 @@
 -- What the rules look at, read from the parts of a core.
 use Rattle.std.specs.Prelude.{ℕ, ◌+◌, Bool, false, not, ◌==◌, ◌||◌, if◌then◌else◌, List, []}
 use Rattle.std.specs.Prelude.{Option, None, filter, length, slice_index_or}
+use Rattle.com_base.specs.declared.apartments.TheConstants.{FIRST_STA}
 use Rattle.com_refs_books.specs.Changes.{Books, no_books}
 use Rattle.com_model.specs.declared.scenario.Scenario.{Scenario}
 use Rattle.com_model.specs.declared.keeps.Phase.TheVariants.{Unposted}
@@ -68,7 +69,7 @@ sight_by w b = record {
   mail = λ l. slice_index_or w.lanes.mail l no_mail;
   quit = λ l. slice_index_or w.lanes.quits l false;
   dying = dying_seen w;
-  next_sta = length w.lanes.stas + 3;
+  next_sta = length w.lanes.stas + FIRST_STA;
   main_sta = or_host (first (filter (λ a. not (is_member a w.lanes.ended)) w.lanes.stas));
   inbox = inbox_at w.calls;
   objects = length w.objects.makings;

@@ -1,5 +1,6 @@
 //! The three bodies of a source.
 ghost use Rattle.std.specs.Prelude.{◌≡◌, ◌↔◌, ◌<◌, ◌++◌, ◌∷◌, [], List, IfSome, IfNone, IsTrue};
+ghost use Rattle.com_base.specs.declared.limits.TheConstants.{LINK_COUNT};
 ghost use Rattle.com_body.specs.declared.statements.Stmt.{Stmt};
 ghost use Rattle.com_body.specs.declared.statements.Stmt.TheVariants as stmt;
 ghost use Rattle.com_body.specs.declared.operands.Given.TheVariants as given_of;
@@ -149,7 +150,7 @@ fn behind_unadvise_head(body: &[Stmt]) -> Option<&[Stmt]>
 
 // What stands behind the statements that go on at the moves from a number on, if its cell is the argument.
 fn behind_look_in(body: &[Stmt], i: u8) -> Option<&[Stmt]>
-    requires { i < 4 }
+    requires { i < LINK_COUNT }
     ensures some { IfSome result (λ rest. body.now ≡ (look_in i) ++ rest.now) }
     ensures none { IfNone result ((rest : List Stmt) → body.now ≡ (look_in i) ++ rest → ⊥) }
 {
@@ -171,7 +172,7 @@ fn behind_look_in(body: &[Stmt], i: u8) -> Option<&[Stmt]>
 
 // What stands behind the statements that put the next cookie and sink in the place with a number.
 fn behind_move_down(body: &[Stmt], i: u8) -> Option<&[Stmt]>
-    requires { i < 3 }
+    requires { i + 1 < LINK_COUNT }
     ensures some { IfSome result (λ rest. body.now ≡ (move_down i) ++ rest.now) }
     ensures none { IfNone result ((rest : List Stmt) → body.now ≡ (move_down i) ++ rest → ⊥) }
 {
@@ -251,7 +252,7 @@ pub(crate) fn is_unadvise(body: &[Stmt]) -> bool
 // What stands behind the statements that take the sink of the place with a number, if its cookie is above
 // the one that was reached.
 fn behind_look_at(body: &[Stmt], i: u8) -> Option<&[Stmt]>
-    requires { i < 4 }
+    requires { i < LINK_COUNT }
     ensures some { IfSome result (λ rest. body.now ≡ (look_at i) ++ rest.now) }
     ensures none { IfNone result ((rest : List Stmt) → body.now ≡ (look_at i) ++ rest → ⊥) }
 {
