@@ -34,12 +34,13 @@ use Rattle.com_model.specs.Deeds.{packet_fields, fields_since, with_packets, rep
 use Rattle.com_laws_safety.proofs.Small.{same-number}
 use Rattle.com_laws_balance.proofs.Packets.{Grown, AllLive}
 use Rattle.com_laws_balance.proofs.Sendings.{end-grown}
+use Rattle.com_exchange.proofs.Kinds.{value_kind}
 use Rattle.com_exchange.specs.Received.{reference_in_fields, packet_in_fields}
 use Rattle.com_laws_messages.specs.Messages.{as_list}
 use Rattle.com_laws_messages.specs.Replies.{kinds_before}
 use Rattle.com_laws_messages.proofs.Fields.{AreNew, FewHeld, as-many-new, fields_from, fields-number}
 use Rattle.com_laws_messages.proofs.Walking.{CanCarry, ResultCan, IsShort}
-use Rattle.com_laws_messages.proofs.Sending.{AllOf, FieldsFit, value-kind, can-send, in-range, few-wires, carried-few, one-result}
+use Rattle.com_laws_messages.proofs.Sending.{AllOf, FieldsFit, can-send, in-range, few-wires, carried-few, one-result}
 use Rattle.com_laws_messages.proofs.Naming.{AllFields, new-fields}
 use Rattle.com_laws_messages.proofs.Requests.{Marshalled, marshals, live-values}
 use Rattle.com_laws_messages.proofs.Leaves.{LeaveGives}
@@ -72,7 +73,7 @@ result-kinds b live hr (Some k) x = by-test (is_failure hr)
   where
     by-test : (t : Bool) → AllOf (cond t [] (k ∷ [])) (result_list (cond t None (Some (sent_value b live k (given_or_default k x)))))
     by-test true = tt
-    by-test false = (value-kind b live k (given_or_default k x), tt)
+    by-test false = (value_kind b live k (given_or_default k x), tt)
 
 one-kind : (k : Option Kind) (hr : HResult) → length (kinds_before k hr) ≤ 4
 one-kind None hr = omega arith

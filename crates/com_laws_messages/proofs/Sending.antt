@@ -1,28 +1,22 @@
 -- Values of declared kinds that a message can carry may be sent, each reference by a packet whose fields are in their ranges.
 use Rattle.std.proofs.Common.{ap, arith}
 use Rattle.std.specs.List.{AllByRecursion}
-use Rattle.std.specs.Prelude.{◌≡◌, refl, ℕ, suc, ◌+◌, ◌*◌, ◌^◌, ◌≤◌, Bool, true, false, cond, List, [], ◌∷◌, length, Option, Some, None, All}
+use Rattle.std.specs.Prelude.{◌≡◌, refl, ℕ, suc, ◌+◌, ◌*◌, ◌^◌, ◌≤◌, Bool, List, [], ◌∷◌, length, Option, Some, None, All}
 use Rattle.com_base.specs.declared.standard.StdFields.{StdFields}
 use Rattle.com_base.specs.declared.value.Kind.{Kind}
 use Rattle.com_base.specs.declared.value.Kind.TheVariants as kind
 use Rattle.com_base.specs.declared.value.Value.{Value}
 use Rattle.com_base.specs.declared.value.Value.TheVariants as value
-use Rattle.com_base.specs.Values.{as_kind, default_of, has_kind}
 use Rattle.objref.specs.Grammar.{IsStdFields}
 use Rattle.ndr_args.specs.declared.wire.Wire.{Wire}
 use Rattle.ndr_args.specs.declared.wire.Wire.TheVariants as wire
 use Rattle.ndr_args.specs.Written.{HasKind, CanSendAll, IsInRange}
 use Rattle.ndr_args.proofs.Streams.{as_many}
 use Rattle.com_model.specs.Lists.{first, without_first}
-use Rattle.com_model.specs.Values.{if_live, sent_value, sent_values, wires, carried, result_list}
+use Rattle.com_model.specs.Values.{sent_values, wires, carried, result_list}
 use Rattle.com_laws_balance.proofs.Carries.{all-head, all-tail}
-use Rattle.com_laws_safety.proofs.Small.{cond-when}
-use Rattle.com_exchange.specs.Wires.{wire_of}
+use Rattle.com_exchange.proofs.Kinds.{OfKind, default_kind, value_kind}
 use Rattle.com_laws_messages.proofs.Walking.{CanCarry}
-
--- A value has a kind, as one that travels.
-abbrev pub OfKind : Kind → Value → Type 0
-OfKind k v = HasKind k (wire_of v None)
 
 abbrev pub AllOf : List Kind → List Value → Type 0
 AllOf [] [] = Unit {0}
@@ -30,46 +24,10 @@ AllOf [] (v ∷ vs) = ⊥
 AllOf (k ∷ ks) [] = ⊥
 AllOf (k ∷ ks) (v ∷ vs) = OfKind k v × AllOf ks vs
 
-default-kind : (k : Kind) → OfKind k (default_of k)
-default-kind kind.Int = tt
-default-kind kind.Bool = tt
-default-kind kind.Text = tt
-default-kind kind.Bytes = tt
-default-kind kind.Guid = tt
-default-kind (kind.Ref i) = tt
-
-same-kind : (v : Value) (k : Kind) → has_kind v k ≡ true → OfKind k v
-same-kind (value.Int n) kind.Int e = tt
-same-kind (value.Bool b) kind.Bool e = tt
-same-kind (value.Text t) kind.Text e = tt
-same-kind (value.Bytes t) kind.Bytes e = tt
-same-kind (value.Guid g) kind.Guid e = tt
-same-kind (value.Ref (Some r)) (kind.Ref i) e = tt
-same-kind (value.Ref None) (kind.Ref i) e = tt
-same-kind v k e = cc
-
-live-kind : (b : Bool) (live : ℕ → Bool) (k : Kind) (v : Value) → OfKind k v → OfKind k (if_live b live v)
-live-kind true live (kind.Ref i) (value.Ref (Some r)) p = by-test (live r.object)
-  where
-    by-test : (t : Bool) → OfKind (kind.Ref i) (value.Ref (cond t (Some r) None))
-    by-test true = tt
-    by-test false = tt
-live-kind true live k (value.Ref (Some r)) p = absurd p
-live-kind true live k (value.Ref None) p = p
-live-kind true live k (value.Int x) p = p
-live-kind true live k (value.Bool x) p = p
-live-kind true live k (value.Text x) p = p
-live-kind true live k (value.Bytes x) p = p
-live-kind true live k (value.Guid x) p = p
-live-kind false live k v p = p
-
-pub value-kind : (b : Bool) (live : ℕ → Bool) (k : Kind) (v : Value) → OfKind k (sent_value b live k v)
-value-kind b live k v = live-kind b live k (as_kind v k) (cond-when (OfKind k) (has_kind v k) v (default_of k) (λ e. same-kind v k e) (λ e. default-kind k))
-
 pub values-kind : (b : Bool) (live : ℕ → Bool) (ks : List Kind) (vs : List Value) → AllOf ks (sent_values b live ks vs)
 values-kind b live [] vs = tt
-values-kind b live (k ∷ ks) [] = (default-kind k, values-kind b live ks [])
-values-kind b live (k ∷ ks) (v ∷ vs) = (value-kind b live k v, values-kind b live ks vs)
+values-kind b live (k ∷ ks) [] = (default_kind k, values-kind b live ks [])
+values-kind b live (k ∷ ks) (v ∷ vs) = (value_kind b live k v, values-kind b live ks vs)
 
 ref-kind : (k : Kind) (o : Option StdFields) → HasKind k (wire.Ref None) → HasKind k (wire.Ref o)
 ref-kind (kind.Ref i) o p = p

@@ -9,10 +9,9 @@ use Rattle.com_base.specs.declared.value.RefValue.{RefValue}
 use Rattle.com_base.specs.declared.value.Value.{Value}
 use Rattle.com_base.specs.declared.value.Value.TheVariants as value
 use Rattle.com_base.specs.Values.{as_kind, default_of, has_kind}
-use Rattle.ndr_args.specs.Written.{HasKind}
 use Rattle.com_model.specs.Values.{carried, if_live, sent_value, sent_values}
 use Rattle.com_exchange.specs.Messages.{CanTravel, TravelAs}
-use Rattle.com_exchange.specs.Wires.{wire_of}
+use Rattle.com_exchange.proofs.Kinds.{chosen, default_kind, value_kind}
 use Rattle.com_rules.specs.Packets.{AllConnected}
 
 all_head : (v : Value) (vs : List Value) → All CanTravel (v ∷ vs) → CanTravel v
@@ -23,17 +22,6 @@ all_tail v vs p = λ k d h. p (suc k) d (grind (arith, common_steps, h))
 
 -- ---- one value
 
-abbrev OfKind : Kind → Value → Type 0
-OfKind k v = HasKind k (wire_of v None)
-
-default_kind : (k : Kind) → OfKind k (default_of k)
-default_kind kind.Int = tt
-default_kind kind.Bool = tt
-default_kind kind.Text = tt
-default_kind kind.Bytes = tt
-default_kind kind.Guid = tt
-default_kind (kind.Ref i) = tt
-
 pub default_travels : (k : Kind) → CanTravel (default_of k)
 default_travels kind.Int = tt
 default_travels kind.Bool = tt
@@ -41,31 +29,6 @@ default_travels kind.Text = (IsUtf8-nil, omega arith)
 default_travels kind.Bytes = omega arith
 default_travels kind.Guid = tt
 default_travels (kind.Ref i) = tt
-
-same_kind : (v : Value) (k : Kind) → has_kind v k ≡ true → OfKind k v
-same_kind (value.Int n) kind.Int e = tt
-same_kind (value.Bool b) kind.Bool e = tt
-same_kind (value.Text t) kind.Text e = tt
-same_kind (value.Bytes t) kind.Bytes e = tt
-same_kind (value.Guid g) kind.Guid e = tt
-same_kind (value.Ref (Some r)) (kind.Ref i) e = tt
-same_kind (value.Ref None) (kind.Ref i) e = tt
-same_kind v k e = cc
-
-live_kind : (b : Bool) (live : ℕ → Bool) (k : Kind) (v : Value) → OfKind k v → OfKind k (if_live b live v)
-live_kind true live (kind.Ref i) (value.Ref (Some r)) p = by_test (live r.object)
-  where
-    by_test : (t : Bool) → OfKind (kind.Ref i) (value.Ref (cond t (Some r) None))
-    by_test true = tt
-    by_test false = tt
-live_kind true live k (value.Ref (Some r)) p = absurd p
-live_kind true live k (value.Ref None) p = p
-live_kind true live k (value.Int x) p = p
-live_kind true live k (value.Bool x) p = p
-live_kind true live k (value.Text x) p = p
-live_kind true live k (value.Bytes x) p = p
-live_kind true live k (value.Guid x) p = p
-live_kind false live k v p = p
 
 live_travels : (b : Bool) (live : ℕ → Bool) (v : Value) → CanTravel v → CanTravel (if_live b live v)
 live_travels true live (value.Ref (Some r)) p = by_test (live r.object)
@@ -80,14 +43,6 @@ live_travels true live (value.Text x) p = p
 live_travels true live (value.Bytes x) p = p
 live_travels true live (value.Guid x) p = p
 live_travels false live v p = p
-
--- a value where it has the kind, else the default
-chosen : (P : Value → Type 0) (t : Bool) (v w : Value) → (t ≡ true → P v) → P w → P (cond t v w)
-chosen P true v w p q = p refl
-chosen P false v w p q = q
-
-value_kind : (b : Bool) (live : ℕ → Bool) (k : Kind) (v : Value) → OfKind k (sent_value b live k v)
-value_kind b live k v = live_kind b live k (as_kind v k) (chosen (OfKind k) (has_kind v k) v (default_of k) (same_kind v k) (default_kind k))
 
 pub value_travels : (b : Bool) (live : ℕ → Bool) (k : Kind) (v : Value) → CanTravel v → CanTravel (sent_value b live k v)
 value_travels b live k v p = live_travels b live (as_kind v k) (chosen CanTravel (has_kind v k) v (default_of k) (λ e. p) (default_travels k))
