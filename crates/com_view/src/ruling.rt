@@ -140,7 +140,7 @@ impl<'a> View<'a> {
 
     // Makes the entry of a lane that waits for a posted call without an answer: the admission of another call, what
     // follows a verdict or a wait, or the question what to do with a word.
-    fn post_deed<R: References>(
+    fn posted_deed<R: References>(
         &self,
         refs: &R,
         alloc: Global,
@@ -176,7 +176,7 @@ impl<'a> View<'a> {
             return self.answer(refs, call, deed);
         }
         if self.is_posted(call) {
-            return self.post_deed(refs, alloc, lane, call, deed);
+            return self.posted_deed(refs, alloc, lane, call, deed);
         }
         if self.calls.admission(call).is_none() {
             return self.admit(refs, alloc, lane, call, deed);
