@@ -1,6 +1,7 @@
 //! A picture that is drawn entry by entry.
 ghost use Rattle.std.specs.Prelude.{◌≡◌, ◌+◌, ◌<◌, ◌≤◌, ◌^◌, ◌++◌, [], IfOk, OnOk, length};
 ghost use Rattle.com_model.specs.Formed.{Formed};
+ghost use Rattle.com_draw_state.specs.declared.board.TheConstants.{MOST_LANES};
 ghost use Rattle.com_draw_labels.specs.Labels.{label};
 ghost use Rattle.com_draw.specs.Ends.{end_text};
 ghost use Rattle.com_draw.specs.Entries.{after, drawn, entry_text, labelled};
@@ -43,7 +44,7 @@ impl Model for Drawing {
 
 // Appends what stands before the first row, with so many threads and lanes of the pool.
 fn push_front(out: &mut ByteList, threads: u32, pool: u32) -> Result<(), Memory>
-    requires { threads + pool < 64 }
+    requires { threads + pool < MOST_LANES }
     ensures { OnOk result (out.new ≡ out.old
         ++ front_styles (threads + 1 + pool + 1) ++ front_names threads pool) }
 {

@@ -1,5 +1,8 @@
 //! The widths of lanes, which are known at the end.
-ghost use Rattle.std.specs.Prelude.{◌≡◌, ◌+◌, ◌<◌, ◌≤◌, ◌*◌, ◌++◌, IfOk, OnOk, length};
+ghost use Rattle.std.specs.Prelude.{◌≡◌, ◌+◌, ◌<◌, ◌≤◌, ◌*◌, ◌^◌, ◌++◌, IfOk, OnOk, length};
+ghost use Rattle.com_draw_state.specs.declared.board.TheConstants.{MOST_LANES};
+ghost use Rattle.com_draw_state.specs.declared.tracks.TheConstants.{TRACKS};
+ghost use Rattle.com_draw_words.specs.declared.limits.TheConstants.{BESIDE, TRACK_WIDTH};
 ghost use Rattle.com_draw.specs.Widths.{lane_rule, lane_rules, objects_rules, objects_width, total_width, width_of};
 ghost use Rattle.com_draw.specs.Widths.{widths_text};
 
@@ -14,7 +17,7 @@ use com_draw_words::{
 // How wide a lane is: one that made an entry as its labels ask for.
 fn width_of(lane: &Lane) -> u32
     ensures value { result ≡ width_of lane.now }
-    ensures few { result ≤ 65535 }
+    ensures few { result < 2 ^ 16 }
 {
     if !lane.has_acted {
         return IDLE;
@@ -32,10 +35,10 @@ fn push_rule(out: &mut ByteList, number: u32, from: u32, lane: &Lane) -> Result<
 
 // Appends the widths of lanes, and says how wide they are together.
 fn push_rules(out: &mut ByteList, lanes: &[Lane]) -> Result<u32, Memory>
-    requires { length lanes.now ≤ 64 }
+    requires { length lanes.now ≤ MOST_LANES }
     ensures text { OnOk result (out.new ≡ out.old ++ lane_rules 1 0 lanes.now) }
     ensures total { IfOk result (λ total. total ≡ total_width lanes.now) }
-    ensures few { IfOk result (λ total. total ≤ 4194240) }
+    ensures few { IfOk result (λ total. total < MOST_LANES * 2 ^ 16) }
 {
     let mut rest = lanes;
     let mut number = 1u32;
@@ -53,8 +56,8 @@ fn push_rules(out: &mut ByteList, lanes: &[Lane]) -> Result<u32, Memory>
 // drawing and of the printed page.
 #[tactic(auto, unfolding(crate::specs::Widths::objects_rules))]
 fn push_objects_rules(out: &mut ByteList, lane: u32, from: u32, width: u32) -> Result<(), Memory>
-    requires from { from ≤ 4194240 }
-    requires width { width ≤ 528 }
+    requires from { from < MOST_LANES * 2 ^ 16 }
+    requires width { width ≤ TRACKS * TRACK_WIDTH + BESIDE }
     ensures { OnOk result (out.new ≡ out.old ++ objects_rules lane from width) }
 {
     push_lane_widths(out, lane, from, width)?;
@@ -65,7 +68,7 @@ fn push_objects_rules(out: &mut ByteList, lane: u32, from: u32, width: u32) -> R
 // How wide the objects' lane is.
 fn objects_width(board: &Board) -> u32
     ensures value { result ≡ objects_width board.now }
-    ensures few { result ≤ 528 }
+    ensures few { result ≤ TRACKS * TRACK_WIDTH + BESIDE }
 {
     board.tracks().as_slice().len() as u32 * TRACK_WIDTH + BESIDE
 }

@@ -6,6 +6,7 @@ use Rattle.com_base.specs.declared.value.RefValue.{RefValue}
 use Rattle.com_base.specs.declared.value.Value.{Value}
 use Rattle.com_body.specs.declared.operands.Asked.{Asked}
 use Rattle.com_classes.specs.Tables.{Tables}
+use Rattle.com_filter.specs.declared.TheConstants.{LEAST_DELAY_MS}
 use Rattle.com_draw_words.specs.Escapes.{word_and_number}
 use Rattle.com_filter.specs.declared.Verdict.{Verdict}
 use Rattle.com_model.specs.declared.deeds.Deed.{Deed}
@@ -19,7 +20,6 @@ use Rattle.com_draw_names.specs.declared.contexts.Caller.{Caller}
 use Rattle.com_draw_names.specs.declared.contexts.Context.{Context}
 use Rattle.com_model.specs.Answers.{is_failure}
 use Rattle.com_draw_names.specs.Failures.{hresult_behind, hresult_if}
-use Rattle.com_draw_names.specs.declared.filters.TheConstants.{LEAST_DELAY}
 use Rattle.com_draw_names.specs.Filters.{later_words, verdict_verb}
 use Rattle.com_draw_names.specs.Names.{called_words, class_words, interface_words, method_words, object_text}
 use Rattle.com_draw_names.specs.Values.{given_text, passed_text}
@@ -161,7 +161,7 @@ later_label c n = word_and_number (codes "c") c ++ later_words n
 abbrev pub retry_label : (call : ℕ) → ℤ → List ℕ
 retry_label c n =
     if int_lt n (pos 0) then word_and_number (codes "gives up c") c
-    else if int_lt n LEAST_DELAY then word_and_number (codes "again c") c
+    else if int_lt n (pos LEAST_DELAY_MS) then word_and_number (codes "again c") c
     else later_label c n
 
 abbrev pub pending_label : (call : ℕ) → (word : ℤ) → (answer : ℕ) → List ℕ

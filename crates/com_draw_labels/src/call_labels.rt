@@ -10,11 +10,11 @@ use crate::words::{push_failed, push_words_signed};
 use com_base::{ByteList, HResult, Memory, Value};
 use com_classes::Classes;
 use com_draw_names::{
-    Caller, LEAST_DELAY, push_called, push_given, push_hresult, push_hresult_behind, push_later,
+    Caller, push_called, push_given, push_hresult, push_hresult_behind, push_later,
     push_method, push_object, push_passed, push_verb,
 };
 use com_draw_words::push_word_and_number;
-use com_filter::Verdict;
+use com_filter::{LEAST_DELAY_MS, Verdict};
 
 // Appends the message filter that an STA has from now on, or that it has none.
 fn push_filter_named(out: &mut ByteList, filter: Option<u32>) -> Result<(), Memory>
@@ -198,14 +198,14 @@ fn push_later_label(out: &mut ByteList, call: u32, answer: i64) -> Result<(), Me
 }
 
 // Appends what the caller's filter says of a call that was not taken: below 0 the call is given
-// up, below `LEAST_DELAY` it goes again at once, and else so many milliseconds later.
+// up, below `LEAST_DELAY_MS` it goes again at once, and else so many milliseconds later.
 pub(crate) fn push_retry(out: &mut ByteList, call: u32, answer: i64) -> Result<(), Memory>
     ensures { OnOk result (out.new ≡ out.old ++ retry_label call answer) }
 {
     if answer < 0 {
         return push_word_and_number(out, b"gives up c", call);
     }
-    if answer < LEAST_DELAY {
+    if answer < LEAST_DELAY_MS as i64 {
         return push_word_and_number(out, b"again c", call);
     }
     push_later_label(out, call, answer)

@@ -6,10 +6,6 @@ use crate::names::push_signed;
 use com_base::{ByteList, Memory};
 use com_filter::Verdict;
 
-/// The least answer of a message filter by which a call is sent again later, after so many milliseconds. A
-/// lower one that is not negative sends it again at once.
-pub const LEAST_DELAY: i64 = 100;
-
 /// Appends what a message filter does with a call. The only error is want of memory.
 pub fn push_verb(out: &mut ByteList, verdict: Verdict) -> Result<(), Memory>
     ensures { OnOk result (out.new ≡ out.old ++ verdict_verb verdict) }

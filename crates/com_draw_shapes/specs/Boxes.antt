@@ -15,6 +15,7 @@ use Rattle.com_draw_state.specs.Board.{State}
 use Rattle.com_draw_state.specs.Lanes.{lane_at}
 use Rattle.com_draw_state.specs.Stacks.{innermost}
 use Rattle.com_draw_state.specs.Tracks.{is_live_in, is_live_of, is_of}
+use Rattle.com_draw_words.specs.declared.boxes.TheConstants.{NO_HUE}
 use Rattle.com_draw_words.specs.declared.boxes.BoxKind.{BoxKind}
 use Rattle.com_draw_words.specs.declared.boxes.BoxKind.TheVariants as kind
 use Rattle.com_draw_words.specs.declared.boxes.BoxText.{BoxText}
@@ -62,8 +63,8 @@ kind_of (what.Runs call apartment) = kind.Body
 
 -- A body's hue is that of its apartment.
 abbrev pub hue_in : Opened → ℕ
-hue_in what.Pumps = 9
-hue_in (what.Waits call m iface method) = 9
+hue_in what.Pumps = NO_HUE
+hue_in (what.Waits call m iface method) = NO_HUE
 hue_in (what.Runs call apartment) = hue_of apartment
 
 -- The text in the box: the number of the call; none for a pump.

@@ -1,5 +1,6 @@
 //! The boxes of homes, of what is open, and of the lives of objects.
 ghost use Rattle.std.specs.Prelude.{◌≡◌, ◌<◌, ◌≤◌, ◌^◌, ◌++◌, OnOk, length};
+ghost use Rattle.com_draw_state.specs.declared.board.TheConstants.{MOST_LANES};
 ghost use Rattle.com_draw_state.specs.Lanes.{lane_at};
 ghost use Rattle.com_draw_state.specs.Stacks.{innermost};
 ghost use Rattle.com_draw_state.specs.declared.tracks.TheConstants.{TRACKS};
@@ -16,7 +17,7 @@ use com_base::{ByteList, FIRST_STA, Memory};
 use com_draw_state::{
     Board, Home, Manner, Opened, Opening, Openings, Start, Track, is_live_in, is_live_of, is_of,
 };
-use com_draw_words::{BoxKind, BoxText, DrawnBox, Foot, hue_of, push_box};
+use com_draw_words::{BoxKind, BoxText, DrawnBox, Foot, NO_HUE, hue_of, push_box};
 
 /// Which tracks are chosen.
 #[derive(Debug, Clone, Copy, PartialEq, Eq)]
@@ -94,7 +95,7 @@ fn hue_in(what: &Opened) -> u8
 {
     match what {
         Opened::Runs { apartment, .. } => hue_of(*apartment),
-        _ => 9,
+        _ => NO_HUE,
     }
 }
 
@@ -258,7 +259,7 @@ pub(crate) fn push_tracks(
 /// The number of the lane of the objects, which stands behind all others.
 pub fn objects_lane(board: &Board) -> u32
     ensures value { result ≡ objects_lane board.now }
-    ensures few { result ≤ 65 }
+    ensures few { result ≤ MOST_LANES + 1 }
 {
     board.lanes().len() as u32 + 1
 }

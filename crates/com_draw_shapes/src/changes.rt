@@ -85,7 +85,7 @@ pub fn has_home(board: &Board, lane: u32) -> bool
 /// 2^31 stands open in its lane. The only error is want of memory.
 #[tactic(auto, unfolding(crate::specs::Changes::changed))]
 pub fn change(board: &mut Board, here: Start, entry: &Entry) -> Result<(), Memory>
-    requires row { here.row < 40 }
+    requires row { here.row < ROWS }
     requires depth { depth_of (lane_at board.old.lanes entry.now.lane) + 1 < 2 ^ 31 }
     ensures { OnOk result (board.new ≡ changed here entry.now board.old) }
 {

@@ -1,6 +1,7 @@
 //! The fronts and the ends of sections.
 ghost use Rattle.std.specs.Prelude.{◌≡◌, ◌<◌, ◌≤◌, ◌^◌, ◌++◌, [], OnOk, length};
 ghost use Rattle.com_model.specs.Lists.{is_member};
+ghost use Rattle.com_draw_state.specs.declared.board.TheConstants.{MOST_LANES};
 ghost use Rattle.com_draw_words.specs.declared.limits.TheConstants.{ROWS};
 ghost use Rattle.com_draw_shapes.specs.Sections.{back_of_section, boxes_below, columns, foot_in};
 ghost use Rattle.com_draw_shapes.specs.Sections.{front_of_section, lane_boxes, lanes_boxes, row_begins};
@@ -91,7 +92,7 @@ fn push_lane(
 // Appends the boxes of all lanes.
 fn push_lanes(out: &mut ByteList, here: Start, cycle: &[u32], lanes: &[Lane]) -> Result<(), Memory>
     requires here { here.row < ROWS }
-    requires few { length lanes.now ≤ 64 }
+    requires few { length lanes.now ≤ MOST_LANES }
     ensures { OnOk result (out.new ≡ out.old ++ lanes_boxes here cycle.now 1 lanes.now) }
 {
     let mut rest = lanes;

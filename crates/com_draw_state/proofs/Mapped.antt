@@ -3,6 +3,7 @@ use Rattle.std.proofs.Common.{◌≡◌, ℕ, zero, suc, List, [], ◌∷◌, �
 use Rattle.std.proofs.Common.{refl, ap, sym, subst, ◌∙◌, arith, add-one, append_assoc, append-nil}
 use Rattle.std.specs.Prelude.{map}
 use Rattle.com_draw_state.specs.Board.{copies}
+use Rattle.com_draw_state.specs.declared.board.TheConstants.{MOST_LANES}
 
 -- the list in which so many elements from the first on are changed
 unfoldable pub mapped : {X : Type 0} → (X → X) → ℕ → List X → List X
@@ -64,6 +65,6 @@ length_copies x (suc n) = ap suc (length_copies x n)
 
 -- the lanes before the first entry are few
 pub few_lanes : {X : Type 0} (none a b d : List X) (x y z : X) (t p : ℕ) → none ≡ [] → a ≡ none ++ copies t x → b ≡ a ++ copies 1 y → d ≡ b ++ copies p z
-    → t + p < 64 → length d ≤ 64
+    → t + p < MOST_LANES → length d ≤ MOST_LANES
 few_lanes none a b d x y z t p en ea eb ed h =
     rw (ed, eb, ea, en) (simp (length-append, length_copies) (omega arith))

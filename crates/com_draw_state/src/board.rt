@@ -1,6 +1,7 @@
 //! The lanes and the tracks of a picture together.
 ghost use Rattle.std.specs.Prelude.{◌≡◌, ◌+◌, ◌<◌, ◌≤◌, ◌^◌, ◌++◌, ◌∷◌, [], IfOk, MatchOption, OnOk, length};
 ghost use Rattle.std.specs.Prelude.{map};
+ghost use Rattle.com_draw_state.specs.declared.board.TheConstants.{MOST_LANES};
 ghost use Rattle.com_draw_state.specs.Board.{copies, first_board, home_from_above, with_lanes, with_tracks};
 ghost use Rattle.com_draw_state.specs.Lanes.{acted, depth_of, homed, lane_at, new_lane, waiter_in};
 ghost use Rattle.com_draw_state.specs.Lanes.{widened, with_lane, with_opening, without_innermost};
@@ -15,6 +16,9 @@ use com_base::{HOST_STA, MTA, Memory};
 use std::alloc::Global;
 use std::marker::Model;
 
+/// The most lanes of a picture.
+pub const MOST_LANES: usize = 64;
+
 /// The lanes of a picture, which are numbered from 1, and its tracks, which are numbered from 0.
 #[derive(Drop)]
 pub struct Board {
@@ -25,19 +29,20 @@ pub struct Board {
 impl Model for Board {
     ghost use Rattle.std.specs.Prelude.{◌≤◌, length};
     ghost use Rattle.com_draw_state.specs.Board.{State};
+    ghost use Rattle.com_draw_state.specs.declared.board.TheConstants.{MOST_LANES};
 
     ghost Value = { State };
 
     ghost view = { λ b. record { lanes = b.lanes.items; tracks = b.tracks } };
 
-    ghost invariant = { λ b. length b.lanes.items ≤ 64 };
+    ghost invariant = { λ b. length b.lanes.items ≤ MOST_LANES };
 }
 
 impl Board {
     /// The board before the first entry: so many threads without home, the host's lane, and so many lanes of
     /// the pool. No track was used. The only error is want of memory.
     pub fn begin(alloc: Global, threads: u32, pool: u32) -> Result<Board, Memory>
-        requires { threads + pool < 64 }
+        requires { threads + pool < MOST_LANES }
         ensures { IfOk result (λ board. board ≡ first_board threads pool) }
     {
         let mut lanes = Vec::new(alloc);
@@ -53,7 +58,7 @@ impl Board {
     /// The lanes, from lane 1 on.
     pub fn lanes(&self) -> &[Lane]
         ensures value { result.now ≡ self.now.lanes }
-        ensures few { length result.now ≤ 64 }
+        ensures few { length result.now ≤ MOST_LANES }
     {
         self.lanes.as_slice()
     }

@@ -1,5 +1,6 @@
 //! The lanes of a picture: the home of each, what stands open in it, and how wide it has to be.
 ghost use Rattle.std.specs.Prelude.{◌≡◌, ◌+◌, ◌<◌, ◌≤◌, ◌^◌, MatchOption, OnOk, length};
+ghost use Rattle.com_draw_state.specs.declared.board.TheConstants.{MOST_LANES};
 ghost use Rattle.com_draw_state.specs.Lanes.{acted, depth_of, homed, lane_at, new_lane, waiter_at};
 ghost use Rattle.com_draw_state.specs.Lanes.{waiter_by, waiter_in, widened, with_lane, with_opening};
 ghost use Rattle.com_draw_state.specs.Lanes.{without_innermost};
@@ -177,7 +178,7 @@ fn waiter_at(openings: &[Opening], lane: u32, call: u32) -> Option<Waiter>
 
 // Who waits for a call, where somebody does.
 pub(crate) fn waiter_among(lanes: &[Lane], call: u32) -> Option<Waiter>
-    requires { length lanes.now ≤ 64 }
+    requires { length lanes.now ≤ MOST_LANES }
     ensures { result ≡ waiter_in 1 lanes.now call }
 {
     let mut rest = lanes;

@@ -9,7 +9,7 @@ mod lanes;
 mod stacks;
 mod tracks;
 
-pub use board::Board;
+pub use board::{Board, MOST_LANES};
 pub use com_base::Memory;
 pub use lanes::{Home, Lane, Waiter};
 pub use stacks::{Manner, Opened, Opening, Openings, Start};

@@ -5,6 +5,7 @@ use Rattle.std.specs.Fmt.{signed_decimal}
 use Rattle.com_base.specs.declared.hresult.HResult.{HResult}
 use Rattle.com_base.specs.declared.value.Value.{Value}
 use Rattle.com_classes.specs.Tables.{Tables}
+use Rattle.com_filter.specs.declared.TheConstants.{LEAST_DELAY_MS}
 use Rattle.com_draw_words.specs.Escapes.{link_text, word_and_number}
 use Rattle.com_filter.specs.declared.Verdict.{Verdict}
 use Rattle.com_model.specs.declared.deeds.Deed.{Deed}
@@ -21,7 +22,6 @@ use Rattle.com_draw_stories.specs.declared.speakers.Entered.{Entered}
 use Rattle.com_draw_stories.specs.declared.speakers.Speaker.{Speaker}
 use Rattle.com_model.specs.Answers.{is_failure}
 use Rattle.com_draw_names.specs.Failures.{failure_text}
-use Rattle.com_draw_names.specs.declared.filters.TheConstants.{LEAST_DELAY}
 use Rattle.com_draw_names.specs.Filters.{later_words, verdict_verb}
 use Rattle.com_draw_names.specs.Names.{object_text, place_text, shown_called, shown_method}
 use Rattle.com_draw_names.specs.Values.{shown_given}
@@ -159,9 +159,9 @@ leave_story s c hr v =
 abbrev pub back_story : Speaker → (call : ℕ) → HResult → Option Value → List ℕ
 back_story s c hr v = lane_does s.lane (codes " has the answer of ") ++ link_text c ++ outcome s.version hr v
 
--- When a call is sent again, by a filter's answer: at once below `LEAST_DELAY`, and else after so many milliseconds.
+-- When a call is sent again, by a filter's answer: at once below `LEAST_DELAY_MS`, and else after so many milliseconds.
 abbrev pub again_words : ℤ → List ℕ
-again_words n = if int_lt n LEAST_DELAY then codes " again at once" else later_words n
+again_words n = if int_lt n (pos LEAST_DELAY_MS) then codes " again at once" else later_words n
 
 -- That a lane's filter has a call sent again, and when.
 abbrev pub sends_again : (lane call : ℕ) → (answer : ℤ) → List ℕ

@@ -14,11 +14,11 @@ use crate::speakers::{Called, Entered, Speaker};
 use com_base::{ByteList, HResult, Memory, Value};
 use com_classes::Classes;
 use com_draw_names::{
-    Caller, LEAST_DELAY, push_failure, push_later, push_object, push_place, push_shown_called,
+    Caller, push_failure, push_later, push_object, push_place, push_shown_called,
     push_shown_given, push_shown_method, push_signed, push_verb,
 };
 use com_draw_words::{push_link, push_number, push_word_and_number};
-use com_filter::Verdict;
+use com_filter::{LEAST_DELAY_MS, Verdict};
 use com_model::Route;
 use std::alloc::Global;
 
@@ -352,12 +352,12 @@ pub(crate) fn push_back(
     push_outcome(alloc, out, speaker.version, hr, value)
 }
 
-// Appends when a call is sent again, by a filter's answer: at once below `LEAST_DELAY`, and else after so
+// Appends when a call is sent again, by a filter's answer: at once below `LEAST_DELAY_MS`, and else after so
 // many milliseconds.
 fn push_again_words(out: &mut ByteList, answer: i64) -> Result<(), Memory>
     ensures { OnOk result (out.new ≡ out.old ++ again_words answer) }
 {
-    if answer < LEAST_DELAY {
+    if answer < LEAST_DELAY_MS as i64 {
         return out.push_all(b" again at once");
     }
     push_later(out, answer)

@@ -1,14 +1,16 @@
 -- The names of the lanes, and what stands around the rows of a section.
 use Rattle.std.specs.Prelude.{ℕ, List, ◌++◌, codes}
+use Rattle.com_base.specs.declared.apartments.TheConstants.{HOST_STA, MTA}
+use Rattle.com_draw_words.specs.declared.boxes.TheConstants.{NO_HUE}
 use Rattle.com_draw_words.specs.declared.sections.LaneKind.{LaneKind}
 use Rattle.com_draw_words.specs.declared.sections.LaneKind.TheVariants as kind
 use Rattle.com_draw_words.specs.Escapes.{word_and_number}
 
 -- The hue of a lane's name: that of the host STA, that of the MTA for the pool, and one of no apartment for a thread.
 abbrev pub lane_hue : LaneKind → ℕ
-lane_hue kind.Thread = 9
-lane_hue kind.Host = 2
-lane_hue kind.Pool = 1
+lane_hue kind.Thread = NO_HUE
+lane_hue kind.Host = HOST_STA
+lane_hue kind.Pool = MTA
 
 -- What a lane is, behind its number.
 abbrev pub lane_words : LaneKind → List ℕ

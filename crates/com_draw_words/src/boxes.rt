@@ -77,6 +77,9 @@ pub struct DrawnBox {
 // How many hues the single-threaded apartments of threads have, in turn.
 const THREAD_HUES: u32 = 6;
 
+/// The hue of what stands in no apartment.
+pub const NO_HUE: u8 = 9;
+
 /// The number of an apartment's hue: 0 to 2 for the first three, and for the others 3 to 8 in turn.
 pub fn hue_of(apartment: u32) -> u8
     ensures { result ≡ hue_of apartment }

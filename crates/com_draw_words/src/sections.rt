@@ -4,8 +4,9 @@ ghost use Rattle.com_draw_words.specs.Sections.{column_text, columns_end_text, l
 ghost use Rattle.com_draw_words.specs.Sections.{lane_words, objects_name_text, section_back_text};
 ghost use Rattle.com_draw_words.specs.Sections.{section_end_text, section_front_text};
 
+use crate::boxes::NO_HUE;
 use crate::texts::push_word_and_number;
-use com_base::{ByteList, Memory};
+use com_base::{ByteList, HOST_STA, MTA, Memory};
 
 /// The sorts of lanes that have a name.
 #[derive(Debug, Clone, Copy, PartialEq, Eq)]
@@ -23,9 +24,9 @@ fn lane_hue(kind: LaneKind) -> u32
     ensures { result ≡ lane_hue kind }
 {
     match kind {
-        LaneKind::Thread => 9,
-        LaneKind::Host => 2,
-        LaneKind::Pool => 1,
+        LaneKind::Thread => NO_HUE as u32,
+        LaneKind::Host => HOST_STA,
+        LaneKind::Pool => MTA,
     }
 }
 
