@@ -1,5 +1,6 @@
 //! What the words ask for is done.
 ghost use Rattle.std.specs.Prelude.{◌≡◌, map, string_bytes};
+ghost use Rattle.com_commands.specs.declared.statuses.TheConstants.{MEMORY_CODE};
 ghost use Rattle.com_commands.specs.declared.statuses.Status.TheVariants as status;
 ghost use Rattle.com_commands.specs.Statuses.{Says, sides_of, sides_without_source};
 ghost use Rattle.com_servant.specs.Rows.{row};
@@ -41,7 +42,7 @@ pub fn draw_main<S: Source, K: Sink>(
         (map stepped servants.old.items) (map stepped servants.new.items) }
     ensures row { map kind_of servants.new.items ≡ row }
     ensures unread { ReadsNone (request_of (map string_bytes words.now)) → source.new ≡ source.old }
-    ensures unwritten { result ≡ 9 → K.held sink.new ≡ K.held sink.old }
+    ensures unwritten { result ≡ MEMORY_CODE → K.held sink.new ≡ K.held sink.old }
 {
     answer(alloc, request_of(words), servants, source, sink)
 }
@@ -63,7 +64,7 @@ fn answer<S: Source, K: Sink>(
         (map stepped servants.old.items) (map stepped servants.new.items) }
     ensures row { map kind_of servants.new.items ≡ row }
     ensures unread { ReadsNone asked → source.new ≡ source.old }
-    ensures unwritten { result ≡ 9 → K.held sink.new ≡ K.held sink.old }
+    ensures unwritten { result ≡ MEMORY_CODE → K.held sink.new ≡ K.held sink.old }
 {
     match asked {
         Request::Replay => draw_replay_main(alloc, servants, source, sink),
@@ -86,7 +87,7 @@ fn say_usage<K: Sink>(sink: &mut K) -> Status
 // The usage, by the number of its status.
 fn usage<K: Sink>(sink: &mut K) -> u8
     ensures usage { IsUsage result (sides_without_source K.held K.faults_of sink.old sink.new) }
-    ensures unwritten { result ≡ 9 → K.held sink.new ≡ K.held sink.old }
+    ensures unwritten { result ≡ MEMORY_CODE → K.held sink.new ≡ K.held sink.old }
 {
     say_usage(sink).code()
 }

@@ -1,5 +1,6 @@
 //! The frame of commands that replay by a row of servants and answer with one text.
 ghost use Rattle.std.specs.Prelude.{◌≡◌, ℕ, List, IfOk, OnOk, map};
+ghost use Rattle.com_commands.specs.declared.statuses.TheConstants.{MEMORY_CODE};
 ghost use Rattle.com_commands.specs.declared.statuses.Status.{Status as AnyStatus};
 ghost use Rattle.com_commands.specs.declared.statuses.Status.TheVariants as status;
 ghost use Rattle.com_commands.specs.Inputs.{input_of};
@@ -57,7 +58,7 @@ pub fn answer_by_row<C: TellingCommand, S: Source, K: Sink>(
         (sides_of S.left S.faults_of K.held K.faults_of source.old source.new sink.old sink.new)
         (map stepped servants.old.items) (map stepped servants.new.items) }
     ensures row { map kind_of servants.new.items ≡ row }
-    ensures unwritten { result ≡ 9 → K.held sink.new ≡ K.held sink.old }
+    ensures unwritten { result ≡ MEMORY_CODE → K.held sink.new ≡ K.held sink.old }
 {
     tell_for::<C, S, K>(alloc, servants, source, sink).code()
 }

@@ -1,5 +1,6 @@
 //! The page of the one history of a scenario with event sources.
 ghost use Rattle.std.specs.Prelude.{◌≡◌, IfOk, OnOk, map};
+ghost use Rattle.com_commands.specs.declared.statuses.TheConstants.{MEMORY_CODE};
 ghost use Rattle.com_commands.specs.Inputs.{input_of};
 ghost use Rattle.com_commands.specs.Responses.{Responds, Serves};
 ghost use Rattle.com_commands.specs.Statuses.{sides_of};
@@ -87,7 +88,7 @@ pub fn draw_points_main<S: Source, K: Sink>(
         (sides_of S.left S.faults_of K.held K.faults_of source.old source.new sink.old sink.new)
         (map stepped servants.old.items) (map stepped servants.new.items) }
     ensures row { map kind_of servants.new.items ≡ row }
-    ensures unwritten { result ≡ 9 → K.held sink.new ≡ K.held sink.old }
+    ensures unwritten { result ≡ MEMORY_CODE → K.held sink.new ≡ K.held sink.old }
 {
     answer_by_row::<PointsCommand, S, K>(alloc, servants, source, sink)
 }

@@ -3,6 +3,7 @@ ghost use Rattle.std.specs.Prelude.{◌≡◌, ◌<◌, ◌^◌, [], IfOk, List,
 ghost use Rattle.std.proofs.Common.{lit<};
 ghost use Rattle.com_check.specs.Agreeing.{IsAgreed};
 ghost use Rattle.com_check.specs.Judging.{judged_text};
+ghost use Rattle.com_commands.specs.declared.statuses.TheConstants.{MEMORY_CODE};
 ghost use Rattle.com_commands.specs.declared.statuses.Status.TheVariants as status;
 ghost use Rattle.com_commands.specs.Lengths.{long_text};
 ghost use Rattle.com_commands.specs.Responses.{Responds};
@@ -128,7 +129,7 @@ fn draw_question(alloc: Global, question: Question) -> Result<Reply, Memory>
 pub fn draw_trace_main<S: Source, K: Sink>(alloc: Global, source: &mut S, sink: &mut K) -> u8
     ensures answers { Responds question_input IsTraceAnswer result
         (sides_of S.left S.faults_of K.held K.faults_of source.old source.new sink.old sink.new) }
-    ensures unwritten { result ≡ 9 → K.held sink.new ≡ K.held sink.old }
+    ensures unwritten { result ≡ MEMORY_CODE → K.held sink.new ≡ K.held sink.old }
 {
     respond::<TracePage, S, K>(alloc, source, sink)
 }

@@ -2,6 +2,7 @@
 ghost use Rattle.std.specs.Prelude.{◌≡◌};
 ghost use Rattle.std.proofs.Common.{lit<};
 ghost use Rattle.com_base.specs.declared.limits.TheConstants.{TEXT_2_LIMIT};
+ghost use Rattle.com_commands.specs.declared.statuses.TheConstants.{MEMORY_CODE};
 ghost use Rattle.com_commands.specs.Responses.{Responds};
 ghost use Rattle.com_commands.specs.Statuses.{sides_of};
 ghost use Rattle.com_scenario.specs.Sizes.{is_too_long};
@@ -83,7 +84,7 @@ impl ReplyingCommand for Migrate {
 pub fn migrate_main<S: Source, K: Sink>(alloc: Global, source: &mut S, sink: &mut K) -> u8
     ensures answers { Responds migrating IsMigrated result
         (sides_of S.left S.faults_of K.held K.faults_of source.old source.new sink.old sink.new) }
-    ensures unwritten { result ≡ 9 → K.held sink.new ≡ K.held sink.old }
+    ensures unwritten { result ≡ MEMORY_CODE → K.held sink.new ≡ K.held sink.old }
 {
     respond::<Migrate, S, K>(alloc, source, sink)
 }

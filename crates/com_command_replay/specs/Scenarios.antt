@@ -9,6 +9,7 @@ use Rattle.com_replay.specs.Replays.{whole_text}
 use Rattle.com_scenario.specs.Scenarios.{reading}
 use Rattle.com_scenario.specs.Sizes.{is_too_long}
 use Rattle.com_laws_safe.specs.OneHistory.{OneHistory}
+use Rattle.com_commands.specs.declared.statuses.TheConstants.{MEMORY_CODE}
 use Rattle.com_commands.specs.declared.inputs.Input.{Input}
 use Rattle.com_commands.specs.declared.inputs.Input.TheVariants as input
 use Rattle.com_command_replay.specs.Histories.{IsHistory}
@@ -36,7 +37,7 @@ ScenariosReplay = (code : ℕ) (sides : Sides) (bytes : List ℕ) (scenario : Sc
     → scenario_input bytes ≡ input.Reads scenario
     → (Rose sides.read_faults sides.read_faults_after → ⊥)
     → (Rose sides.write_faults sides.write_faults_after → ⊥)
-    → IsReplayed code scenario sides.held sides.held_after ⊎ (code ≡ 9)
+    → IsReplayed code scenario sides.held sides.held_after ⊎ (code ≡ MEMORY_CODE)
 
 -- The one history of the schedule of every input that is a scenario is legal, has ended and is safe, and no
 -- other legal history has its text.

@@ -2,6 +2,7 @@
 ghost use Rattle.std.specs.Prelude.{◌≡◌, ◌≤◌, All, IfOk, map, vec_len};
 ghost use Rattle.std.proofs.Common.{lit<};
 ghost use Rattle.com_base.specs.declared.limits.TheConstants.{TEXT_2_LIMIT};
+ghost use Rattle.com_commands.specs.declared.statuses.TheConstants.{MEMORY_CODE};
 ghost use Rattle.com_commands.specs.declared.statuses.Status.TheVariants as status;
 ghost use Rattle.com_commands.specs.Inputs.{input_of};
 ghost use Rattle.com_commands.specs.Responses.{Causes, Responds};
@@ -99,7 +100,7 @@ pub fn run_main<R: Threads + Wait + Sync, S: Source, K: Sink, G: Gate + Sync>(
     requires crew { All (λ servants. map kind_of servants.items ≡ row) crew.items }
     ensures answers { Responds (input_of is_too_long reading) IsRun result
         (sides_of S.left S.faults_of K.held K.faults_of source.old source.new sink.old sink.new) }
-    ensures unwritten { result ≡ 9 → K.held sink.new ≡ K.held sink.old }
+    ensures unwritten { result ≡ MEMORY_CODE → K.held sink.new ≡ K.held sink.old }
 {
     run_for(rt, alloc, crew, gate, source, sink).code()
 }

@@ -2,6 +2,7 @@
 use Rattle.std.specs.Prelude.{◌≡◌, ℕ, ◌⊎◌, List, Option, Some}
 use Rattle.com_io.specs.Faults.{Rose}
 use Rattle.com_io.specs.Told.{Gains, GainsPrefix, IsAtEnd}
+use Rattle.com_commands.specs.declared.statuses.TheConstants.{MEMORY_CODE}
 use Rattle.com_commands.specs.declared.inputs.Input.{Input}
 use Rattle.com_commands.specs.declared.statuses.Status.{Status}
 use Rattle.com_commands.specs.declared.statuses.Status.TheVariants as status
@@ -108,4 +109,4 @@ RespondsWhole ask Fits = (code : ℕ) (sides : Sides) (bytes : List ℕ) → Res
     → sides.left ≡ Some bytes
     → (Rose sides.read_faults sides.read_faults_after → ⊥)
     → (Rose sides.write_faults sides.write_faults_after → ⊥)
-    → IsWholeAnswer ask Fits code sides bytes ⊎ (code ≡ 9)
+    → IsWholeAnswer ask Fits code sides bytes ⊎ (code ≡ MEMORY_CODE)

@@ -5,20 +5,23 @@ use Rattle.com_io.specs.Told.{Gains, GainsPrefix}
 use Rattle.com_read_operands.specs.declared.faults.Fault.{Fault}
 use Rattle.com_model.specs.declared.counts.Ended.{Ended}
 use Rattle.com_model.specs.declared.counts.Ended.TheVariants as ended
+use Rattle.com_commands.specs.declared.statuses.TheConstants.{BUDGET_CODE, DIFFERS_CODE, DONE_CODE, MEMORY_CODE}
+use Rattle.com_commands.specs.declared.statuses.TheConstants.{READ_FAULT_CODE, REFUSED_CODE, STUCK_CODE, USAGE_CODE}
+use Rattle.com_commands.specs.declared.statuses.TheConstants.{WRITE_FAULT_CODE}
 use Rattle.com_commands.specs.declared.statuses.Status.{Status}
 use Rattle.com_commands.specs.declared.statuses.Status.TheVariants as status
 
 -- The number with which the program exits. 8 is that of no status.
 abbrev pub code_of : Status → ℕ
-code_of status.Done = 0
-code_of status.Usage = 1
-code_of status.Refused = 2
-code_of status.ReadFault = 3
-code_of status.WriteFault = 4
-code_of status.Stuck = 5
-code_of status.Budget = 6
-code_of status.Differs = 7
-code_of status.Memory = 9
+code_of status.Done = DONE_CODE
+code_of status.Usage = USAGE_CODE
+code_of status.Refused = REFUSED_CODE
+code_of status.ReadFault = READ_FAULT_CODE
+code_of status.WriteFault = WRITE_FAULT_CODE
+code_of status.Stuck = STUCK_CODE
+code_of status.Budget = BUDGET_CODE
+code_of status.Differs = DIFFERS_CODE
+code_of status.Memory = MEMORY_CODE
 
 -- The status of a command whose history has ended so.
 abbrev pub status_at : Ended → Status

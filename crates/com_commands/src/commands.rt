@@ -4,6 +4,7 @@ ghost use Rattle.std.specs.Prelude.{Ok, Some, true, IfErr, IfOk, OnOk, length, m
 ghost use Rattle.com_io.specs.Told.{IsAtEnd};
 ghost use Rattle.com_read_operands.specs.declared.faults.Fault.{Fault as AnyFault};
 ghost use Rattle.com_servant.specs.Rows.{row};
+ghost use Rattle.com_commands.specs.declared.statuses.TheConstants.{MEMORY_CODE};
 ghost use Rattle.com_commands.specs.declared.inputs.Input.TheVariants as input;
 ghost use Rattle.com_commands.specs.declared.statuses.Status.{Status as AnyStatus};
 ghost use Rattle.com_commands.specs.declared.statuses.Status.TheVariants as status;
@@ -106,7 +107,7 @@ pub fn respond<C: ReplyingCommand, S: Source, K: Sink>(
 ) -> u8
     ensures answers { Responds (input_of C.too_long C.reading) C.fits result
         (sides_of S.left S.faults_of K.held K.faults_of source.old source.new sink.old sink.new) }
-    ensures unwritten { result ≡ 9 → K.held sink.new ≡ K.held sink.old }
+    ensures unwritten { result ≡ MEMORY_CODE → K.held sink.new ≡ K.held sink.old }
 {
     reply_to::<C, S, K>(alloc, source, sink).code()
 }

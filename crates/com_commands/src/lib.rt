@@ -42,5 +42,5 @@ pub use commands::{InputReader, PlayingCommand, ReplyingCommand, perform, receiv
 pub use inputs::{Input, first_fault, read_as, refused_line, share};
 pub use numbers::push_number;
 pub use scenarios::read_scenario;
-pub use sides::{TOO_LONG, read_input, refuse, say};
+pub use sides::{TOO_LONG, handed_on, read_input, refuse, say};
 pub use statuses::{Reply, Status, status_at};

@@ -1,13 +1,16 @@
 //! What each command does with its source and its sink.
-ghost use Rattle.std.specs.Prelude.{◌≡◌, ◌<◌, ◌≤◌, ℕ, List, IfErr, IfOk, OnOk, Some, length};
-ghost use Rattle.com_io.specs.Told.{IsAtEnd};
+ghost use Rattle.std.specs.Prelude.{◌≡◌, ◌⊎◌, ◌<◌, ◌≤◌, ℕ, List, IfErr, IfOk, OnOk, Some, length};
+ghost use Rattle.com_io.specs.Faults.{Rose};
+ghost use Rattle.com_io.specs.Told.{Gains, IsAtEnd};
+ghost use Rattle.com_commands.specs.declared.statuses.TheConstants.{WRITE_FAULT_CODE};
 ghost use Rattle.com_commands.specs.Statuses.{Says, sides_of};
 ghost use Rattle.com_commands.specs.Unread.{IsUnread, Refuses};
 
 use crate::inputs::refused_line;
-use crate::statuses::Status;
+use crate::statuses::{Status, WRITE_FAULT_CODE};
 use com_base::ByteList;
 use com_io::{ReadAllError, Sink, Source, read_all, write_all};
+use com_pieces::Pieces;
 use com_read_operands::Fault;
 use std::alloc::Global;
 
@@ -61,5 +64,17 @@ pub fn refuse<K: Sink>(alloc: Global, fault: Fault, sink: &mut K) -> Status
     match refused_line(alloc, fault) {
         Ok(line) => say(line.as_slice(), Status::Refused, sink),
         Err(_) => Status::Memory,
+    }
+}
+
+/// The exit status of a program once the last piece of what it wrote is handed on: that of a write fault where it
+/// could not be.
+pub fn handed_on<K: Sink + Drop>(sink: &mut Pieces<K>, status: u8) -> u8
+    ensures { ((result ≡ status) × Gains (K.held sink.old.sink) (K.held sink.new.sink) sink.old.kept)
+        ⊎ ((result ≡ WRITE_FAULT_CODE) × Rose (K.faults_of sink.old.sink) (K.faults_of sink.new.sink)) }
+{
+    match sink.flush() {
+        Ok(()) => status,
+        Err(_) => WRITE_FAULT_CODE,
     }
 }

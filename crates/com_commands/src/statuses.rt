@@ -5,6 +5,33 @@ ghost use Rattle.com_commands.specs.Statuses.{code_of, status_at};
 use com_base::ByteList;
 use com_model::Ended;
 
+/// The number of the exit status where all went well.
+pub const DONE_CODE: u8 = 0;
+
+/// The number of the exit status where the words are none of the usage.
+pub const USAGE_CODE: u8 = 1;
+
+/// The number of the exit status where the input is refused.
+pub const REFUSED_CODE: u8 = 2;
+
+/// The number of the exit status where a read failed.
+pub const READ_FAULT_CODE: u8 = 3;
+
+/// The number of the exit status where a write failed.
+pub const WRITE_FAULT_CODE: u8 = 4;
+
+/// The number of the exit status where the history is stuck.
+pub const STUCK_CODE: u8 = 5;
+
+/// The number of the exit status where the history has as many entries as it may have.
+pub const BUDGET_CODE: u8 = 6;
+
+/// The number of the exit status where a line of the trace differs.
+pub const DIFFERS_CODE: u8 = 7;
+
+/// The number of the exit status where want of memory came.
+pub const MEMORY_CODE: u8 = 9;
+
 /// How a command ended.
 #[derive(Debug, Clone, Copy, PartialEq, Eq)]
 pub enum Status {
@@ -36,15 +63,15 @@ impl Status {
         ensures { result ≡ code_of self }
     {
         match self {
-            Status::Done => 0,
-            Status::Usage => 1,
-            Status::Refused => 2,
-            Status::ReadFault => 3,
-            Status::WriteFault => 4,
-            Status::Stuck => 5,
-            Status::Budget => 6,
-            Status::Differs => 7,
-            Status::Memory => 9,
+            Status::Done => DONE_CODE,
+            Status::Usage => USAGE_CODE,
+            Status::Refused => REFUSED_CODE,
+            Status::ReadFault => READ_FAULT_CODE,
+            Status::WriteFault => WRITE_FAULT_CODE,
+            Status::Stuck => STUCK_CODE,
+            Status::Budget => BUDGET_CODE,
+            Status::Differs => DIFFERS_CODE,
+            Status::Memory => MEMORY_CODE,
         }
     }
 }

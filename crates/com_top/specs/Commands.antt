@@ -4,6 +4,7 @@ use Rattle.com_io.specs.Faults.{Rose}
 use Rattle.com_io.specs.Told.{Gains, GainsPrefix}
 use Rattle.com_command_replay.specs.Replays.{whole_served}
 use Rattle.com_command_replay.specs.Histories.{IsHistory}
+use Rattle.com_commands.specs.declared.statuses.TheConstants.{USAGE_CODE, WRITE_FAULT_CODE}
 use Rattle.com_commands.specs.Responses.{Responds, Serves}
 use Rattle.com_commands.specs.Inputs.{input_of}
 use Rattle.com_commands.specs.Statuses.{Sides}
@@ -29,8 +30,8 @@ usage_line = codes "usage: comrun replay|run|check|load N|objref|migrate|waits|d
 -- and the code is 4.
 abbrev pub IsUsage : (code : ℕ) → Sides → Type 0
 IsUsage code sides =
-    ((code ≡ 1) × Gains sides.held sides.held_after usage_line)
-    ⊎ ((code ≡ 4) × Rose sides.write_faults sides.write_faults_after
+    ((code ≡ USAGE_CODE) × Gains sides.held sides.held_after usage_line)
+    ⊎ ((code ≡ WRITE_FAULT_CODE) × Rose sides.write_faults sides.write_faults_after
     × GainsPrefix sides.held sides.held_after usage_line)
 
 -- Each exit status has its cause. Status 1 is that of other words alone. The sides of a command that reads

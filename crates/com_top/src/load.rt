@@ -4,6 +4,7 @@ ghost use Rattle.com_model.specs.Formed.{Formed};
 ghost use Rattle.com_servant.specs.Rows.{row};
 ghost use Rattle.com_command_replay.specs.Replays.{IsReplay, whole_served};
 ghost use Rattle.com_laws_load.specs.LoadScenarios.{load_scenario};
+ghost use Rattle.com_commands.specs.declared.statuses.TheConstants.{MEMORY_CODE};
 ghost use Rattle.com_commands.specs.declared.statuses.Status.TheVariants as status;
 ghost use Rattle.com_commands.specs.Responses.{Causes, FitsServed, GivesWhole, Responds, Serves};
 ghost use Rattle.com_commands.specs.Statuses.{IsEnd, sides_without_source};
@@ -136,7 +137,7 @@ pub fn load_main<K: Sink>(
         (sides_without_source K.held K.faults_of sink.old sink.new)
         (map stepped servants.old.items) (map stepped servants.new.items) }
     ensures row { map kind_of servants.new.items ≡ row }
-    ensures unwritten { result ≡ 9 → K.held sink.new ≡ K.held sink.old }
+    ensures unwritten { result ≡ MEMORY_CODE → K.held sink.new ≡ K.held sink.old }
 {
     load(alloc, number, servants, sink).code()
 }

@@ -5,6 +5,7 @@ ghost use Rattle.com_model.specs.Formed.{Formed};
 ghost use Rattle.com_servant.specs.Rows.{row};
 ghost use Rattle.com_command_replay.specs.Replays.{whole_served};
 ghost use Rattle.com_command_replay.specs.Recorded.{IsRecorded};
+ghost use Rattle.com_commands.specs.declared.statuses.TheConstants.{MEMORY_CODE};
 ghost use Rattle.com_commands.specs.declared.statuses.Status.TheVariants as status;
 ghost use Rattle.com_commands.specs.Responses.{Causes, FitsServed, GivesWhole, Responds, Serves};
 ghost use Rattle.com_commands.specs.Statuses.{IsEnd, sides_of};
@@ -122,7 +123,7 @@ pub fn waits_main<S: Source, K: Sink>(
         (sides_of S.left S.faults_of K.held K.faults_of source.old source.new sink.old sink.new)
         (map stepped servants.old.items) (map stepped servants.new.items) }
     ensures row { map kind_of servants.new.items ≡ row }
-    ensures unwritten { result ≡ 9 → K.held sink.new ≡ K.held sink.old }
+    ensures unwritten { result ≡ MEMORY_CODE → K.held sink.new ≡ K.held sink.old }
 {
     answer(alloc, servants, source, sink).code()
 }

@@ -1,16 +1,13 @@
 //! `comrun`: the program over the top call. All that it prints goes to the standard output.
 #![tactic(auto)]
 
-ghost use Rattle.std.specs.Prelude.{◌≡◌, ◌⊎◌, IfOk, OnErr, OnOk, map, string_bytes};
-ghost use Rattle.com_commands.specs.declared.statuses.Status.TheVariants as exit;
-ghost use Rattle.com_commands.specs.Statuses.{code_of, sides_of, sides_without_source};
-ghost use Rattle.com_io.specs.Faults.{Rose};
-ghost use Rattle.com_io.specs.Told.{Gains};
+ghost use Rattle.std.specs.Prelude.{◌≡◌, IfOk, OnErr, OnOk, map, string_bytes};
+ghost use Rattle.com_commands.specs.Statuses.{sides_of, sides_without_source};
 ghost use Rattle.com_top.specs.Commands.{Answered, ReadsNone};
 ghost use Rattle.com_top.specs.Words.{command_of};
 
 use com_base::Memory;
-use com_commands::Status;
+use com_commands::{Status, handed_on};
 use com_io::{Sink, Source, StdSink, StdSource};
 use com_pieces::Pieces;
 use com_replay::fresh_row;
@@ -41,17 +38,6 @@ fn main(rt: HostRuntime) -> ExitCode {
         Ok(status) if status == Status::WriteFault.code() => ExitCode::from(status),
         Ok(status) => ExitCode::from(handed_on(&mut sink, status)),
         Err(_) => ExitCode::from(Status::Memory.code()),
-    }
-}
-
-// The status once the last piece is handed on: that of a write fault where it could not be.
-fn handed_on<K: Sink + Drop>(sink: &mut Pieces<K>, status: u8) -> u8
-    ensures { ((result ≡ status) × Gains (K.held sink.old.sink) (K.held sink.new.sink) sink.old.kept)
-        ⊎ ((result ≡ code_of exit.WriteFault) × Rose (K.faults_of sink.old.sink) (K.faults_of sink.new.sink)) }
-{
-    match sink.flush() {
-        Ok(()) => status,
-        Err(_) => Status::WriteFault.code(),
     }
 }
 
