@@ -15,6 +15,7 @@ use std::alloc::Global;
 
 // Makes the next entry of a lane, where it can step. Most lanes wait most of the time, and a lane that waits costs
 // no more than the look at it: no part of an entry is made.
+#[inline(always)]
 #[tactic(auto, using(crate::proofs::Trying::nothing_yet))]
 fn step_if_ready<C: Tries>(
     alloc: Global,
@@ -42,6 +43,7 @@ fn step_if_ready<C: Tries>(
 }
 
 // Tries a number of the picks, where it is that of a lane.
+#[inline(never)]
 #[tactic(auto, using(com_runtime::proofs::Choices::too_low, com_runtime::proofs::Choices::too_high, com_runtime::proofs::Choices::is_pick, crate::proofs::Trying::nothing_yet))]
 fn try_pick<C: Tries>(
     alloc: Global,
@@ -70,6 +72,7 @@ fn try_pick<C: Tries>(
 }
 
 // Tries the picks from the one at `from` on, each once, until one makes its entry.
+#[inline(always)]
 fn pick<C: Tries>(
     alloc: Global,
     runtime: &mut C,
@@ -102,6 +105,7 @@ fn pick<C: Tries>(
 }
 
 // Tries as many lanes as `count` behind the lane `last`, until one makes its entry. There are `most` lanes.
+#[inline(always)]
 fn scan<C: Tries>(
     alloc: Global,
     runtime: &mut C,
@@ -134,6 +138,7 @@ fn scan<C: Tries>(
 }
 
 // Tries the lanes from the one behind the lane `last` on, and then from 1 on, until one makes its entry.
+#[inline(always)]
 fn in_round<C: Tries>(
     alloc: Global,
     runtime: &mut C,
@@ -165,6 +170,7 @@ fn in_round<C: Tries>(
 ///
 /// The history is shorter than it may be. The row has one servant of each kind, in the
 /// order of the kinds. The only error is want of memory.
+#[inline(always)]
 pub fn take_turn<C: Tries>(
     alloc: Global,
     runtime: &mut C,
