@@ -133,7 +133,7 @@ reached-in (cut.Object p) (r ∷ rs) zero = refl
 reached-in (cut.Sta a) (r ∷ rs) zero = refl
 reached-in x (r ∷ rs) (suc k) = reached-in x rs k
 
-pub reached-seen : (x : Cut) (rows : List RowView) (posted waiting : Queues) (room causes call : ℕ) → reached x (row_at rows call) ≡ cut_by (kept_of rows posted waiting room causes) x call
+pub reached-seen : (x : Cut) (rows : List RowView) (posted : List ℕ) (waiting : Queues) (room causes call : ℕ) → reached x (row_at rows call) ≡ cut_by (kept_of rows posted waiting room causes) x call
 reached-seen (cut.Object p) rows posted waiting room causes zero = refl
 reached-seen (cut.Sta a) rows posted waiting room causes zero = refl
 reached-seen (cut.Object p) rows posted waiting room causes (suc k) = reached-in (cut.Object p) rows k

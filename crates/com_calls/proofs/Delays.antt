@@ -388,7 +388,7 @@ wait-in now [] k = refl
 wait-in now (r ∷ rs) zero = refl
 wait-in now (r ∷ rs) (suc k) = wait-in now rs k
 
-wait-seen : (now : ℕ) (rows : List RowView) (posted waiting : Queues) (room causes c : ℕ) → row_wait now (row_at rows c) ≡ wait_of (kept_of rows posted waiting room causes) now c
+wait-seen : (now : ℕ) (rows : List RowView) (posted : List ℕ) (waiting : Queues) (room causes c : ℕ) → row_wait now (row_at rows c) ≡ wait_of (kept_of rows posted waiting room causes) now c
 wait-seen now rows posted waiting room causes zero = refl
 wait-seen now rows posted waiting room causes (suc k) = wait-in now rows k
 
@@ -396,7 +396,7 @@ filter_map-same : (f g : ℕ → Option ℕ) (xs : List ℕ) → ((x : ℕ) → 
 filter_map-same f g [] p = refl
 filter_map-same f g (x ∷ xs) p = ap₂ (λ (o : Option ℕ) (ys : List ℕ). cons_option o ys) (p x) (filter_map-same f g xs p)
 
-pub next-seen : (rows : List RowView) (posted waiting : Queues) (capacity room causes now : ℕ) (delayed : List ℕ) → IsCovered rows delayed capacity room → least (filter_map (λ c. row_wait now (row_at rows c)) delayed) ≡ next_wait (kept_of rows posted waiting room causes) now
+pub next-seen : (rows : List RowView) (posted : List ℕ) (waiting : Queues) (capacity room causes now : ℕ) (delayed : List ℕ) → IsCovered rows delayed capacity room → least (filter_map (λ c. row_wait now (row_at rows c)) delayed) ≡ next_wait (kept_of rows posted waiting room causes) now
 next-seen rows posted waiting capacity room causes now delayed p =
     same-least (λ c. row_wait now (row_at rows c)) delayed (one_to (length rows))
     (λ c t h e. let z = inside rows c (row-waits now t (row_at rows c) e) in member-one_to (length rows) c z.0 z.1)

@@ -3,6 +3,7 @@ use Rattle.std.proofs.Common.{◌≡◌, refl, sym, ◌∙◌, ap, arith, ℕ, z
 use Rattle.com_base.specs.declared.hresult.HResult.{HResult}
 use Rattle.com_base.specs.declared.value.Value.{Value}
 use Rattle.com_refs_books.specs.Counting.{count_if}
+use Rattle.com_filter.specs.declared.TheConstants.{LEAST_DELAY_MS}
 use Rattle.com_filter.specs.declared.Verdict.{Verdict}
 use Rattle.com_model.specs.declared.deeds.Deed.{Deed}
 use Rattle.com_model.specs.declared.deeds.Deed.TheVariants as deed
@@ -52,7 +53,7 @@ retry-split t c n now false = refl
 
 pub after_retry : (o : ObjectTables) (m : Moment) (i : Issuing) (t : CallTables) (l c : ℕ) (x : ℤ) → calls_after o m i t (record { lane = l; deed = deed.Retry c x }) ≡ retried_at t c x m.clock
 after_retry o m i t l c (negsuc n) = none-drawn (retried_at t c (negsuc n) m.clock)
-after_retry o m i t l c (pos n) = none-drawn (retry-posts t c n m.clock (nat_lt n 100)) ∙ retry-split t c n m.clock (nat_lt n 100)
+after_retry o m i t l c (pos n) = none-drawn (retry-posts t c n m.clock (nat_lt n LEAST_DELAY_MS)) ∙ retry-split t c n m.clock (nat_lt n LEAST_DELAY_MS)
 
 pub after_pending : (o : ObjectTables) (m : Moment) (i : Issuing) (t : CallTables) (l c : ℕ) (w : ℤ) (n : ℕ) → calls_after o m i t (record { lane = l; deed = deed.Pending c w n }) ≡ asked_at t c n
 after_pending o m i t l c w zero = none-drawn (asked_at t c 0)

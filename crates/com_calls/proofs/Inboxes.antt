@@ -158,7 +158,7 @@ filter-same f g [] p = refl
 filter-same f g (x ∷ xs) p = rw (p x, filter-same f g xs p) refl
 
 -- The calls are kept after a call ceased to wait.
-pub kept_retired : (f : RowView → RowView) (c : ℕ) (rows : List RowView) (posted waiting : Queues) (capacity room causes : ℕ) → IsKept rows posted waiting capacity room causes
+pub kept_retired : (f : RowView → RowView) (c : ℕ) (rows : List RowView) (posted : List ℕ) (waiting : Queues) (capacity room causes : ℕ) → IsKept rows posted waiting capacity room causes
     → ((r : RowView) → r.apartment ≡ (f r).apartment) → ((a : ℕ) (r : RowView) → row_waits a (f r) ≡ false)
     → IsKept (changed_row f c rows) posted (without_number waiting c) capacity room causes
 kept_retired f c rows posted waiting capacity room causes p home none =
@@ -166,9 +166,7 @@ kept_retired f c rows posted waiting capacity room causes p home none =
     record {
       within = let h : length rows ≤ room = p.within in omega (arith, h, same);
       capacity_is = p.capacity_is;
-      posted_room = p.posted_room;
       waiting_room = p.waiting_room;
-      one = p.one;
       causes_are = let h : causes ≤ length rows = p.causes_are in omega (arith, h, same);
       homes = λ k d h.
           let low : (slice_index_or rows k d).apartment < length waiting.queues = p.homes k d (omega (arith, h, same)) in
@@ -177,11 +175,11 @@ kept_retired f c rows posted waiting capacity room causes p home none =
           omega (arith, low, e, n);
       inboxes = λ a.
           queue-without c waiting.queues a ∙ ap (without c) (p.inboxes a)
-          ∙ sym (filter-without c (waits_row (changed_row f c rows) a) (waits_row rows a) (queue_at posted 0) (waits-other f a c rows) (waits-none f a c rows (none a)));
+          ∙ sym (filter-without c (waits_row (changed_row f c rows) a) (waits_row rows a) posted (waits-other f a c rows) (waits-none f a c rows (none a)));
     }
 
 -- The calls are kept after a change that inboxes do not see.
-pub kept_same : (f : RowView → RowView) (c : ℕ) (rows : List RowView) (posted waiting : Queues) (capacity room causes : ℕ) → IsKept rows posted waiting capacity room causes
+pub kept_same : (f : RowView → RowView) (c : ℕ) (rows : List RowView) (posted : List ℕ) (waiting : Queues) (capacity room causes : ℕ) → IsKept rows posted waiting capacity room causes
     → ((r : RowView) → r.apartment ≡ (f r).apartment) → ((a : ℕ) (r : RowView) → row_waits a (f r) ≡ row_waits a r)
     → IsKept (changed_row f c rows) posted waiting capacity room causes
 kept_same f c rows posted waiting capacity room causes p home waits =
@@ -189,19 +187,17 @@ kept_same f c rows posted waiting capacity room causes p home waits =
     record {
       within = let h : length rows ≤ room = p.within in omega (arith, h, same);
       capacity_is = p.capacity_is;
-      posted_room = p.posted_room;
       waiting_room = p.waiting_room;
-      one = p.one;
       causes_are = let h : causes ≤ length rows = p.causes_are in omega (arith, h, same);
       homes = λ k d h.
           let low : (slice_index_or rows k d).apartment < length waiting.queues = p.homes k d (omega (arith, h, same)) in
           let e : (slice_index_or (changed_row f c rows) k d).apartment ≡ (slice_index_or rows k d).apartment = home-changed f c rows k d home in
           omega (arith, low, e);
-      inboxes = λ a. p.inboxes a ∙ sym (filter-same (waits_row (changed_row f c rows) a) (waits_row rows a) (queue_at posted 0) (λ x. waits-same f a c rows x (waits a)));
+      inboxes = λ a. p.inboxes a ∙ sym (filter-same (waits_row (changed_row f c rows) a) (waits_row rows a) posted (λ x. waits-same f a c rows x (waits a)));
     }
 
 -- What contracts see after it.
-pub seen_retired : (f : RowView → RowView) (c : ℕ) (rows : List RowView) (posted waiting : Queues) (room causes : ℕ) (t : CallTables) → t ≡ call_tables (changed_row f c rows) (queue_at posted 0) causes
+pub seen_retired : (f : RowView → RowView) (c : ℕ) (rows : List RowView) (posted : List ℕ) (waiting : Queues) (room causes : ℕ) (t : CallTables) → t ≡ call_tables (changed_row f c rows) posted causes
     → ((r : RowView) → r.apartment ≡ (f r).apartment)
     → kept_of (changed_row f c rows) posted (without_number waiting c) room causes ≡ with_tables (kept_of rows posted waiting room causes) t
 seen_retired f c rows posted waiting room causes t e home = λ i. record {
@@ -211,17 +207,17 @@ seen_retired f c rows posted waiting room causes t e home = λ i. record {
   inboxes = length-map waiting.queues (without c) i;
 }
 
-pub seen_left : (c : ℕ) (hr : HResult) (v : Option Value) (rows : List RowView) (ys : List (Option Leaving)) (posted waiting : Queues) (room causes : ℕ)
+pub seen_left : (c : ℕ) (hr : HResult) (v : Option Value) (rows : List RowView) (ys : List (Option Leaving)) (posted : List ℕ) (waiting : Queues) (room causes : ℕ)
     → with_later (kept_of (changed_row (left_with c hr v) c rows) posted (without_number waiting c) room causes) (with_late_call ys c (late_row (row_at rows c) (record { call = c; hr = hr; value = v })))
     ≡ with_tables (with_later (kept_of rows posted waiting room causes) ys) (left_at (with_later (kept_of rows posted waiting room causes) ys).tables c hr v)
 seen_left c hr v rows ys posted waiting room causes = λ i. record {
-  tables = sym (tables_left c hr v rows ys (queue_at posted 0) causes) i;
+  tables = sym (tables_left c hr v rows ys posted causes) i;
   apartments = sym (column (λ (r : RowView). r.apartment) (left_with c hr v) None c 0 rows (λ r. refl)) i;
   room = room;
   inboxes = length-map waiting.queues (without c) i;
 }
 
-pub seen_same : (f : RowView → RowView) (c : ℕ) (rows : List RowView) (posted waiting : Queues) (room causes : ℕ) (t : CallTables) → t ≡ call_tables (changed_row f c rows) (queue_at posted 0) causes
+pub seen_same : (f : RowView → RowView) (c : ℕ) (rows : List RowView) (posted : List ℕ) (waiting : Queues) (room causes : ℕ) (t : CallTables) → t ≡ call_tables (changed_row f c rows) posted causes
     → ((r : RowView) → r.apartment ≡ (f r).apartment)
     → kept_of (changed_row f c rows) posted waiting room causes ≡ with_tables (kept_of rows posted waiting room causes) t
 seen_same f c rows posted waiting room causes t e home = λ i. record {
@@ -232,12 +228,6 @@ seen_same f c rows posted waiting room causes t e home = λ i. record {
 }
 
 -- A posting.
-posted-queue : (c : ℕ) (q : Queues) → 1 ≤ length q.queues → queue_at (with_last (without_number q c) 0 c) 0 ≡ posted_last (Posts c) (queue_at q 0)
-posted-queue c q h =
-    let n : length (map (without c) q.queues) ≡ length q.queues = length-map q.queues (without c) in
-    get_or-set_same (map (without c) q.queues) 0 (queue_at (without_number q c) 0 ++ c ∷ []) [] (omega (arith, h, n))
-    ∙ ap (λ (xs : List ℕ). xs ++ c ∷ []) (queue-without c q.queues 0 ∙ without-is c (queue_at q 0))
-
 pub inbox-posted : (f : RowView → RowView) (a c : ℕ) (rows : List RowView) (ps : List ℕ) → filter (waits_row (changed_row f c rows) a) (posted_last (Posts c) ps) ≡ without c (filter (waits_row rows a) ps) ++ cond (waits_row (changed_row f c rows) a c) (c ∷ []) []
 inbox-posted f a c rows ps =
     filter-append (waits_row (changed_row f c rows) a) (filter (λ d. not (d == c)) ps) (c ∷ [])
@@ -275,23 +265,17 @@ set-kept (x ∷ xs) zero q = refl
 set-kept (x ∷ xs) (suc a) q = ap (λ (n : ℕ). suc n) (set-kept xs a q)
 
 -- Where the posted call is neither entered nor answered, it waits at the end of its apartment's inbox.
-pub kept_posted : (c : ℕ) (rows : List RowView) (posted waiting : Queues) (capacity room causes : ℕ) (d : RowView) → IsKept rows posted waiting capacity room causes → 1 ≤ c → c ≤ length rows → is_open (slice_index_or rows (c - 1) d) ≡ true
-    → IsKept (changed_row (phased Queued) c rows) (with_last (without_number posted c) 0 c) (with_last (without_number waiting c) (slice_index_or rows (c - 1) d).apartment c) capacity room causes
+pub kept_posted : (c : ℕ) (rows : List RowView) (posted : List ℕ) (waiting : Queues) (capacity room causes : ℕ) (d : RowView) → IsKept rows posted waiting capacity room causes → 1 ≤ c → c ≤ length rows → is_open (slice_index_or rows (c - 1) d) ≡ true
+    → IsKept (changed_row (phased Queued) c rows) (posted_last (Posts c) posted) (with_last (without_number waiting c) (slice_index_or rows (c - 1) d).apartment c) capacity room causes
 kept_posted c rows posted waiting capacity room causes d p low high is_open_now =
     let same : length (changed_row (phased Queued) c rows) ≡ length rows = length-changed (phased Queued) c rows in
     let home : ℕ = (slice_index_or rows (c - 1) d).apartment in
     let many : length (map (without c) waiting.queues) ≡ length waiting.queues = length-map waiting.queues (without c) in
-    let many_posted : length (map (without c) posted.queues) ≡ length posted.queues = length-map posted.queues (without c) in
     let home_known : home < length waiting.queues = p.homes (c - 1) d (omega (arith, low, high)) in
     record {
       within = let h : length rows ≤ room = p.within in omega (arith, h, same);
       capacity_is = p.capacity_is;
-      posted_room = p.posted_room;
       waiting_room = p.waiting_room;
-      one =
-          let h : 1 ≤ length posted.queues = p.one in
-          let n : length (slice_set (map (without c) posted.queues) 0 (queue_at (without_number posted c) 0 ++ c ∷ [])) ≡ length (map (without c) posted.queues) = set-kept (map (without c) posted.queues) 0 (queue_at (without_number posted c) 0 ++ c ∷ []) in
-          omega (arith, h, n, many_posted);
       causes_are = let h : causes ≤ length rows = p.causes_are in omega (arith, h, same);
       homes = λ k e h.
           let small : (slice_index_or rows k e).apartment < length waiting.queues = p.homes k e (omega (arith, h, same)) in
@@ -300,8 +284,8 @@ kept_posted c rows posted waiting capacity room causes d p low high is_open_now 
           omega (arith, small, it, n, many);
       inboxes = λ a.
           queue-then a (home == a) refl (omega (arith, home_known, many))
-          ∙ sym (ap (filter (waits_row (changed_row (phased Queued) c rows) a)) (posted-queue c posted p.one) ∙ inbox-posted (phased Queued) a c rows (queue_at posted 0)
-          ∙ ap (λ (b : Bool). without c (filter (waits_row rows a) (queue_at posted 0)) ++ cond b (c ∷ []) []) (waits-posted a c rows d low high ∙ open-and (home == a) (is_open (slice_index_or rows (c - 1) d)) is_open_now)
+          ∙ sym (inbox-posted (phased Queued) a c rows posted
+          ∙ ap (λ (b : Bool). without c (filter (waits_row rows a) posted) ++ cond b (c ∷ []) []) (waits-posted a c rows d low high ∙ open-and (home == a) (is_open (slice_index_or rows (c - 1) d)) is_open_now)
           ∙ ap (λ (xs : List ℕ). without c xs ++ cond (home == a) (c ∷ []) []) (sym (p.inboxes a)));
     }
   where
@@ -315,47 +299,41 @@ kept_posted c rows posted waiting capacity room causes d p low high is_open_now 
         rw e (get_or-set_other (map (without c) waiting.queues) (slice_index_or rows (c - 1) d).apartment a (queue_at (without_number waiting c) (slice_index_or rows (c - 1) d).apartment ++ c ∷ []) [] (λ q. apart (slice_index_or rows (c - 1) d).apartment a (sym q) e)
         ∙ queue-without c waiting.queues a ∙ sym (append-none (without c (queue_at waiting a))))
 
-pub kept_posted_closed : (c : ℕ) (rows : List RowView) (posted waiting : Queues) (capacity room causes : ℕ) (d : RowView) → IsKept rows posted waiting capacity room causes → 1 ≤ c → c ≤ length rows → is_open (slice_index_or rows (c - 1) d) ≡ false
-    → IsKept (changed_row (phased Queued) c rows) (with_last (without_number posted c) 0 c) (without_number waiting c) capacity room causes
+pub kept_posted_closed : (c : ℕ) (rows : List RowView) (posted : List ℕ) (waiting : Queues) (capacity room causes : ℕ) (d : RowView) → IsKept rows posted waiting capacity room causes → 1 ≤ c → c ≤ length rows → is_open (slice_index_or rows (c - 1) d) ≡ false
+    → IsKept (changed_row (phased Queued) c rows) (posted_last (Posts c) posted) (without_number waiting c) capacity room causes
 kept_posted_closed c rows posted waiting capacity room causes d p low high is_closed =
     let same : length (changed_row (phased Queued) c rows) ≡ length rows = length-changed (phased Queued) c rows in
     let many : length (map (without c) waiting.queues) ≡ length waiting.queues = length-map waiting.queues (without c) in
-    let many_posted : length (map (without c) posted.queues) ≡ length posted.queues = length-map posted.queues (without c) in
     record {
       within = let h : length rows ≤ room = p.within in omega (arith, h, same);
       capacity_is = p.capacity_is;
-      posted_room = p.posted_room;
       waiting_room = p.waiting_room;
-      one =
-          let h : 1 ≤ length posted.queues = p.one in
-          let n : length (slice_set (map (without c) posted.queues) 0 (queue_at (without_number posted c) 0 ++ c ∷ [])) ≡ length (map (without c) posted.queues) = set-kept (map (without c) posted.queues) 0 (queue_at (without_number posted c) 0 ++ c ∷ []) in
-          omega (arith, h, n, many_posted);
       causes_are = let h : causes ≤ length rows = p.causes_are in omega (arith, h, same);
       homes = λ k e h.
           let small : (slice_index_or rows k e).apartment < length waiting.queues = p.homes k e (omega (arith, h, same)) in
           let it : (slice_index_or (changed_row (phased Queued) c rows) k e).apartment ≡ (slice_index_or rows k e).apartment = home-changed (phased Queued) c rows k e (λ r. refl) in
           omega (arith, small, it, many);
       inboxes = λ a.
-          queue-without c waiting.queues a ∙ ap (without c) (p.inboxes a) ∙ sym (append-none (without c (filter (waits_row rows a) (queue_at posted 0))))
-          ∙ sym (ap (filter (waits_row (changed_row (phased Queued) c rows) a)) (posted-queue c posted p.one) ∙ inbox-posted (phased Queued) a c rows (queue_at posted 0)
-          ∙ ap (λ (b : Bool). without c (filter (waits_row rows a) (queue_at posted 0)) ++ cond b (c ∷ []) [])
+          queue-without c waiting.queues a ∙ ap (without c) (p.inboxes a) ∙ sym (append-none (without c (filter (waits_row rows a) posted)))
+          ∙ sym (inbox-posted (phased Queued) a c rows posted
+          ∙ ap (λ (b : Bool). without c (filter (waits_row rows a) posted) ++ cond b (c ∷ []) [])
           (waits-posted a c rows d low high ∙ closed-and ((slice_index_or rows (c - 1) d).apartment == a) (is_open (slice_index_or rows (c - 1) d)) is_closed));
     }
 
 -- What contracts see of it.
-pub seen_posted : (c : ℕ) (rows : List RowView) (posted waiting : Queues) (queue room causes : ℕ) → 1 ≤ length posted.queues
-    → kept_of (changed_row (phased Queued) c rows) (with_last (without_number posted c) 0 c) (with_last (without_number waiting c) queue c) room causes ≡ with_tables (kept_of rows posted waiting room causes) (posted_at (call_tables rows (queue_at posted 0) causes) c)
-seen_posted c rows posted waiting queue room causes h = λ i. record {
-  tables = (ap (λ (xs : List ℕ). call_tables (changed_row (phased Queued) c rows) xs causes) (posted-queue c posted h) ∙ sym (tables_phased Queued c rows (posted_last (Posts c) (queue_at posted 0)) causes)) i;
+pub seen_posted : (c : ℕ) (rows : List RowView) (posted : List ℕ) (waiting : Queues) (queue room causes : ℕ)
+    → kept_of (changed_row (phased Queued) c rows) (posted_last (Posts c) posted) (with_last (without_number waiting c) queue c) room causes ≡ with_tables (kept_of rows posted waiting room causes) (posted_at (call_tables rows posted causes) c)
+seen_posted c rows posted waiting queue room causes = λ i. record {
+  tables = sym (tables_phased Queued c rows (posted_last (Posts c) posted) causes) i;
   apartments = sym (column (λ (r : RowView). r.apartment) (phased Queued) None c 0 rows (λ r. refl)) i;
   room = room;
   inboxes = (set-kept (map (without c) waiting.queues) queue (queue_at (without_number waiting c) queue ++ c ∷ []) ∙ length-map waiting.queues (without c)) i;
 }
 
-pub seen_posted_closed : (c : ℕ) (rows : List RowView) (posted waiting : Queues) (room causes : ℕ) → 1 ≤ length posted.queues
-    → kept_of (changed_row (phased Queued) c rows) (with_last (without_number posted c) 0 c) (without_number waiting c) room causes ≡ with_tables (kept_of rows posted waiting room causes) (posted_at (call_tables rows (queue_at posted 0) causes) c)
-seen_posted_closed c rows posted waiting room causes h = λ i. record {
-  tables = (ap (λ (xs : List ℕ). call_tables (changed_row (phased Queued) c rows) xs causes) (posted-queue c posted h) ∙ sym (tables_phased Queued c rows (posted_last (Posts c) (queue_at posted 0)) causes)) i;
+pub seen_posted_closed : (c : ℕ) (rows : List RowView) (posted : List ℕ) (waiting : Queues) (room causes : ℕ)
+    → kept_of (changed_row (phased Queued) c rows) (posted_last (Posts c) posted) (without_number waiting c) room causes ≡ with_tables (kept_of rows posted waiting room causes) (posted_at (call_tables rows posted causes) c)
+seen_posted_closed c rows posted waiting room causes = λ i. record {
+  tables = sym (tables_phased Queued c rows (posted_last (Posts c) posted) causes) i;
   apartments = sym (column (λ (r : RowView). r.apartment) (phased Queued) None c 0 rows (λ r. refl)) i;
   room = room;
   inboxes = length-map waiting.queues (without c) i;
@@ -382,35 +360,31 @@ pub length-grown : (rows : List RowView) (r : RowView) → length (rows ++ r ∷
 length-grown [] r = refl
 length-grown (x ∷ xs) r = let e : length (xs ++ r ∷ []) ≡ length xs + 1 = length-grown xs r in omega (arith, e)
 
-pub kept_grown : (rows : List RowView) (r : RowView) (posted waiting : Queues) (capacity room causes more : ℕ) → IsKept rows posted waiting capacity room causes → length rows < room → more ≤ 1 → r.apartment < length waiting.queues → ((a : ℕ) → row_waits a r ≡ false)
+pub kept_grown : (rows : List RowView) (r : RowView) (posted : List ℕ) (waiting : Queues) (capacity room causes more : ℕ) → IsKept rows posted waiting capacity room causes → length rows < room → more ≤ 1 → r.apartment < length waiting.queues → ((a : ℕ) → row_waits a r ≡ false)
     → IsKept (rows ++ r ∷ []) posted waiting capacity room (more + causes)
 kept_grown rows r posted waiting capacity room causes more p spare one home none =
     let longer : length (rows ++ r ∷ []) ≡ length rows + 1 = length-grown rows r in
     record {
       within = omega (arith, spare, longer);
       capacity_is = p.capacity_is;
-      posted_room = p.posted_room;
       waiting_room = p.waiting_room;
-      one = p.one;
       causes_are = let h : causes ≤ length rows = p.causes_are in omega (arith, h, longer, one);
       homes = λ k d h. home-grown rows r k (length waiting.queues) d (λ j z. p.homes j d z) home h;
-      inboxes = λ a. p.inboxes a ∙ sym (filter-same (waits_row (rows ++ r ∷ []) a) (waits_row rows a) (queue_at posted 0) (λ x. waits-grown rows r a x (none a)));
+      inboxes = λ a. p.inboxes a ∙ sym (filter-same (waits_row (rows ++ r ∷ []) a) (waits_row rows a) posted (λ x. waits-grown rows r a x (none a)));
     }
 
 -- More room.
-pub kept_roomier : (rows : List RowView) (posted waiting more_posted more_waiting : Queues) (capacity more room more_room causes : ℕ) → IsKept rows posted waiting capacity room causes
-    → ((a : ℕ) → queue_at more_posted a ≡ queue_at posted a) → ((a : ℕ) → queue_at more_waiting a ≡ queue_at waiting a) → length posted.queues ≤ length more_posted.queues → length waiting.queues ≤ length more_waiting.queues
-    → room ≤ more_room → more_room ≤ more → more_room ≤ more_posted.numbers → more_room ≤ more_waiting.numbers
-    → IsKept rows more_posted more_waiting more more_room causes
-kept_roomier rows posted waiting more_posted more_waiting capacity more room more_room causes p same_posted same_waiting ones queues grows fits fits_posted fits_waiting = record {
+pub kept_roomier : (rows : List RowView) (posted : List ℕ) (waiting more_waiting : Queues) (capacity more room more_room causes : ℕ) → IsKept rows posted waiting capacity room causes
+    → ((a : ℕ) → queue_at more_waiting a ≡ queue_at waiting a) → length waiting.queues ≤ length more_waiting.queues
+    → room ≤ more_room → more_room ≤ more → more_room ≤ more_waiting.numbers
+    → IsKept rows posted more_waiting more more_room causes
+kept_roomier rows posted waiting more_waiting capacity more room more_room causes p same_waiting queues grows fits fits_waiting = record {
   within = let h : length rows ≤ room = p.within in omega (arith, h, grows);
   capacity_is = fits;
-  posted_room = fits_posted;
   waiting_room = fits_waiting;
-  one = let h : 1 ≤ length posted.queues = p.one in omega (arith, h, ones);
   causes_are = p.causes_are;
   homes = λ k d h. let small : (slice_index_or rows k d).apartment < length waiting.queues = p.homes k d h in omega (arith, small, queues);
-  inboxes = λ a. same_waiting a ∙ p.inboxes a ∙ ap (filter (waits_row rows a)) (sym (same_posted 0));
+  inboxes = λ a. same_waiting a ∙ p.inboxes a;
 }
 
 pub queue-filled : (qs : List (List ℕ)) (n a : ℕ) → slice_index_or (qs ++ replicate n []) a [] ≡ slice_index_or qs a []
@@ -435,7 +409,7 @@ waits-seen_in [] a k = no-and (0 == a)
 waits-seen_in (r ∷ rs) a zero = refl
 waits-seen_in (r ∷ rs) a (suc k) = waits-seen_in rs a k
 
-waits-seen : (rows : List RowView) (posted waiting : Queues) (room causes : ℕ) (a c : ℕ) → waits_at (kept_of rows posted waiting room causes) a c ≡ waits_row rows a c
+waits-seen : (rows : List RowView) (posted : List ℕ) (waiting : Queues) (room causes : ℕ) (a c : ℕ) → waits_at (kept_of rows posted waiting room causes) a c ≡ waits_row rows a c
 waits-seen rows posted waiting room causes a zero = no-and (0 == a)
   where
     no-and : (x : Bool) → (x && false) ≡ false
@@ -448,10 +422,10 @@ first-is [] = refl
 first-is (x ∷ xs) = refl
 
 -- The first of an inbox.
-pub first-seen : (rows : List RowView) (posted waiting : Queues) (capacity room causes : ℕ) → IsKept rows posted waiting capacity room causes → (a : ℕ) → slice_get (queue_at waiting a) 0 ≡ first (inbox_at (kept_of rows posted waiting room causes) a)
+pub first-seen : (rows : List RowView) (posted : List ℕ) (waiting : Queues) (capacity room causes : ℕ) → IsKept rows posted waiting capacity room causes → (a : ℕ) → slice_get (queue_at waiting a) 0 ≡ first (inbox_at (kept_of rows posted waiting room causes) a)
 first-seen rows posted waiting capacity room causes p a =
     first-is (queue_at waiting a)
-    ∙ ap (λ (xs : List ℕ). first xs) (p.inboxes a ∙ sym (filter-same (waits_at (kept_of rows posted waiting room causes) a) (waits_row rows a) (queue_at posted 0) (waits-seen rows posted waiting room causes a)))
+    ∙ ap (λ (xs : List ℕ). first xs) (p.inboxes a ∙ sym (filter-same (waits_at (kept_of rows posted waiting room causes) a) (waits_row rows a) posted (waits-seen rows posted waiting room causes a)))
 
 -- What ceases to wait.
 shut : (x y z : Bool) → z ≡ false → (x && (y && z)) ≡ false
@@ -479,7 +453,7 @@ left_waits_not c hr v a r = ended_waits_not (ByLeave hr v) a r
 pub phased_waits_not : (p : Phase) → is_queued p ≡ false → (a : ℕ) (r : RowView) → row_waits a (phased p r) ≡ false
 phased_waits_not p h a r = and-none (r.apartment == a) (is_queued p && (is_none r.admission && is_none r.ending)) (ap (λ (b : Bool). b && (is_none r.admission && is_none r.ending)) h)
 
-pub issues-length : (rows : List RowView) (posted waiting : Queues) (room causes : ℕ) (later : List (Option Leaving)) (b : Kept) → with_later (kept_of rows posted waiting room causes) later ≡ b → length b.tables.issues ≡ length rows
+pub issues-length : (rows : List RowView) (posted : List ℕ) (waiting : Queues) (room causes : ℕ) (later : List (Option Leaving)) (b : Kept) → with_later (kept_of rows posted waiting room causes) later ≡ b → length b.tables.issues ≡ length rows
 issues-length rows posted waiting room causes later b e = ap (λ (k : Kept). length k.tables.issues) (sym e) ∙ length-map rows (λ (r : RowView). Some r.issue)
 
 pub drawn-low : (b : Bool) → count_if b ≤ 1
@@ -494,7 +468,7 @@ snoc g [] r = refl
 snoc g (x ∷ xs) r = ap (λ (ys : List _). g x ∷ ys) (snoc g xs r)
 
 -- What contracts see of one call more.
-pub seen_grown : (x : Issue) (made : Issued) (clock : ℕ) (rows : List RowView) (ys : List (Option Leaving)) (posted waiting : Queues) (room causes drawn : ℕ) → length ys ≤ length rows
+pub seen_grown : (x : Issue) (made : Issued) (clock : ℕ) (rows : List RowView) (ys : List (Option Leaving)) (posted : List ℕ) (waiting : Queues) (room causes drawn : ℕ) → length ys ≤ length rows
     → with_later (kept_of (rows ++ new_row_of x made clock ∷ []) posted waiting room (drawn + causes)) ys
     ≡ with_call (with_later (kept_of rows posted waiting room causes) ys) made.apartment (grown_at (with_later (kept_of rows posted waiting room causes) ys).tables x (record { refusal = made.refusal; values = made.values }) clock drawn)
 seen_grown x made clock rows ys posted waiting room causes drawn h =
@@ -511,7 +485,7 @@ seen_grown x made clock rows ys posted waiting room causes drawn h =
         unread = snoc (λ (r : RowView). r.unread) rows r i;
         phases = snoc (λ (r : RowView). r.phase) rows r i;
         times = snoc (λ (r : RowView). r.time) rows r i;
-        postings = queue_at posted 0;
+        postings = posted;
         causes = drawn + causes;
       };
       apartments = snoc (λ (r : RowView). r.apartment) rows r i;

@@ -7,3 +7,4 @@ pub mod RowReads
 pub mod Delays
 pub mod Numbered
 pub mod Leaves
+mod Walks

@@ -1,6 +1,7 @@
 -- What entries do to the tables of calls, in steps.
 use Rattle.std.specs.Prelude.{ℕ, zero, suc, ◌+◌, ℤ, pos, negsuc, Bool, true, false, ◌==◌, ◌&&◌, nat_lt}
 use Rattle.std.specs.Prelude.{if◌then◌else◌, None}
+use Rattle.com_filter.specs.declared.TheConstants.{LEAST_DELAY_MS}
 use Rattle.com_filter.specs.declared.Verdict.{Verdict}
 use Rattle.com_model.specs.declared.deeds.Route.{Route}
 use Rattle.com_model.specs.declared.deeds.Route.TheVariants as route
@@ -23,7 +24,7 @@ judged_at t c v false = ended_at (phased_at t c (phase.Judged v)) c (ending.ByVe
 
 abbrev pub retried_at : CallTables → ℕ → ℤ → (now : ℕ) → CallTables
 retried_at t c (negsuc n) now = ended_at (phased_at t c phase.GivenUp) c ending.ByRetry
-retried_at t c (pos n) now = if nat_lt n 100 then posted_at t c else phased_at t c (phase.Delayed (now + n))
+retried_at t c (pos n) now = if nat_lt n LEAST_DELAY_MS then posted_at t c else phased_at t c (phase.Delayed (now + n))
 
 abbrev pub asked_at : CallTables → ℕ → (answer : ℕ) → CallTables
 asked_at t c zero = ended_at t c ending.ByCancel

@@ -15,10 +15,9 @@ use Rattle.com_calls.specs.Kept.{Kept}
 abbrev pub apartments_of : List RowView → List ℕ
 apartments_of rows = map (λ (r : RowView). r.apartment) rows
 
--- All postings are one queue.
-abbrev pub kept_of : List RowView → (posted waiting : Queues) → (room causes : ℕ) → Kept
+abbrev pub kept_of : List RowView → (posted : List ℕ) → (waiting : Queues) → (room causes : ℕ) → Kept
 kept_of rows posted waiting room causes = record {
-  tables = call_tables rows (queue_at posted 0) causes;
+  tables = call_tables rows posted causes;
   apartments = apartments_of rows;
   room = room;
   inboxes = length waiting.queues;
@@ -36,16 +35,14 @@ abbrev pub waits_row : List RowView → (apartment call : ℕ) → Bool
 waits_row rows a zero = false
 waits_row rows a (suc k) = waits_in rows a k
 
-pub record IsKept (rows : List RowView) (posted waiting : Queues) (capacity room causes : ℕ) : Type 0 where
+pub record IsKept (rows : List RowView) (posted : List ℕ) (waiting : Queues) (capacity room causes : ℕ) : Type 0 where
   pub within : length rows ≤ room
   pub capacity_is : room ≤ capacity
-  pub posted_room : room ≤ posted.numbers
   pub waiting_room : room ≤ waiting.numbers
-  pub one : 1 ≤ length posted.queues
   pub causes_are : causes ≤ length rows
   pub homes : (k : ℕ) (d : RowView)
       → k < length rows → (slice_index_or rows k d).apartment < length waiting.queues
-  pub inboxes : (a : ℕ) → queue_at waiting a ≡ filter (waits_row rows a) (queue_at posted 0)
+  pub inboxes : (a : ℕ) → queue_at waiting a ≡ filter (waits_row rows a) posted
 
 -- A call waits for a time.
 abbrev pub is_delayed : Phase → Option Ending → Bool

@@ -23,11 +23,12 @@ ghost use Rattle.com_calls.specs.Kept.{no_tables, with_tables, with_room, with_c
 ghost use Rattle.com_calls.specs.Steps.{entered_at, ended_at, left_at, returned_at, phased_at, posted_at};
 ghost use Rattle.com_calls.specs.Steps.{taken_at, grown_at, out_entry, is_known, delay_of};
 
+use crate::postings::Postings;
 use crate::rows::{CallRow, Cut, Issued};
 use crate::{later, rows, waits};
 use com_base::{HOST_STA, HResult, Memory, Rows, Value};
 use com_exchange::Message;
-use com_filter::Verdict;
+use com_filter::{LEAST_DELAY_MS, Verdict};
 use com_inbox::Inbox;
 use com_model::{Admission, Deed, Ending, Issue, Leaving, Phase, Route};
 use std::alloc::Global;
@@ -38,8 +39,8 @@ use std::marker::Model;
 #[derive(Debug, Drop)]
 pub struct Calls {
     rows: Vec<CallRow>,
-    // One queue of all calls that were posted, in the order of their last posting.
-    posted: Inbox,
+    // All calls that were posted, in the order of their last posting: for proofs alone.
+    posted: Postings,
     // A queue for each apartment, of the posted calls that are neither judged, entered nor answered.
     waiting: Inbox,
     // The calls that wait for a time, and some that did: what waits no more is taken out where a call comes
@@ -60,10 +61,10 @@ impl Model for Calls {
 
     ghost Value = { Kept };
 
-    ghost view = { λ s. with_later (kept_of s.rows.items s.posted s.waiting s.room s.causes)
+    ghost view = { λ s. with_later (kept_of s.rows.items s.posted.calls s.waiting s.room s.causes)
         s.later.items };
 
-    ghost invariant = { λ s. IsKept s.rows.items s.posted s.waiting (vec_capacity s.rows) s.room s.causes
+    ghost invariant = { λ s. IsKept s.rows.items s.posted.calls s.waiting (vec_capacity s.rows) s.room s.causes
         × IsCovered s.rows.items s.delayed.items (vec_capacity s.delayed) s.room × IsNumbered s.rows.items
         × (s.room ≤ vec_capacity s.later) × (vec_len s.later ≤ vec_len s.rows) };
 }
@@ -74,12 +75,11 @@ impl Calls {
         ensures tables { IfOk result (λ calls. calls.tables ≡ no_tables) }
         ensures apartments { IfOk result (λ calls. calls.apartments ≡ []) }
     {
-        let posted = Inbox::new(alloc, 1)?;
         let waiting = Inbox::new(alloc, 0)?;
         let delayed = Vec::with_capacity(alloc, 1)?;
         Ok(Calls {
             rows: Vec::new(alloc),
-            posted,
+            posted: Postings::none(),
             waiting,
             delayed,
             later: Vec::new(alloc),
@@ -100,7 +100,6 @@ impl Calls {
     {
         let room = room_for(self.room, self.rows.len() as u32);
         self.rows.reserve(room as usize - self.rows.len())?;
-        self.posted.reserve(1, room)?;
         self.delayed
             .reserve((room as usize + 1).saturating_sub(self.delayed.len()))?;
         self.later
@@ -203,7 +202,7 @@ impl Calls {
             self.end(call, Ending::ByRetry);
             return;
         }
-        if answer < 100 {
+        if answer < LEAST_DELAY_MS as i64 {
             self.post(call);
             return;
         }
@@ -491,8 +490,7 @@ impl Calls {
         let apartment = row.apartment();
         let open = row.is_open();
         rows::phase(&mut self.rows, call, Phase::Queued);
-        self.posted.remove(call);
-        self.posted.post(0, call);
+        self.posted = self.posted.with_last(call);
         self.waiting.remove(call);
         if !open {
             return;

@@ -6,6 +6,7 @@
 mod calls;
 mod later;
 mod laws;
+mod postings;
 mod rows;
 mod waits;
 

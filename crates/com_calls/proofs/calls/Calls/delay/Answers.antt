@@ -16,10 +16,10 @@ use Rattle.com_calls.proofs.calls.Calls.delay.Goals as goal
 pub invariant_of-self : goal.invariant_of-self
 invariant_of-self c =
     let s = c.self.inside in
-    let n : length c.args.self.now.tables.issues ≡ length s.rows.items = issues-length s.rows.items s.posted s.waiting s.room s.causes s.later.items c.args.self.now c.self.view_is in
+    let n : length c.args.self.now.tables.issues ≡ length s.rows.items = issues-length s.rows.items s.posted.calls s.waiting s.room s.causes s.later.items c.args.self.now c.self.view_is in
     let high : c.args.call ≤ length s.rows.items = omega (arith, n, c.requires) in
     let is : take s.rows.len (c.phase.new.rows ++ drop (length c.phase.new.rows) s.rows.items) ≡ changed_row (phased (Delayed c.args.until)) c.args.call s.rows.items = grind (arith, common_steps) in (
-      rw (is, c.remove.ensures.queues) (kept_retired (phased (Delayed c.args.until)) c.args.call s.rows.items s.posted s.waiting s.rows.cap s.room s.causes c.self.invariant.0 (λ r. refl) (phased_waits_not (Delayed c.args.until) refl)),
+      rw (is, c.remove.ensures.queues) (kept_retired (phased (Delayed c.args.until)) c.args.call s.rows.items s.posted.calls s.waiting s.rows.cap s.room s.causes c.self.invariant.0 (λ r. refl) (phased_waits_not (Delayed c.args.until) refl)),
       rw (is, c.push_reserved.ensures.items, c.push_reserved.ensures.capacity, c.clean.ensures.items, c.clean.ensures.capacity, c.deref.ensures.value) (covered_delayed (Delayed c.args.until) c.args.call s.rows.items s.delayed.items (vec_capacity s.delayed) s.room high c.self.invariant.1),
       rw is (numbered_changed (phased (Delayed c.args.until)) c.args.call s.rows.items (λ r. refl) c.self.invariant.2),
       c.self.invariant.3,
@@ -30,15 +30,15 @@ pub returns : goal.returns
 returns c =
     let s = c.self.inside in
     let is : take s.rows.len (c.phase.new.rows ++ drop (length c.phase.new.rows) s.rows.items) ≡ changed_row (phased (Delayed c.args.until)) c.args.call s.rows.items = grind (arith, common_steps) in
-    ap (λ (b : Kept). with_later b s.later.items) (ap (λ (xs : List RowView). kept_of xs s.posted c.remove.new.self s.room s.causes) is
-    ∙ ap (λ (q : Queues). kept_of (changed_row (phased (Delayed c.args.until)) c.args.call s.rows.items) s.posted q s.room s.causes) c.remove.ensures.queues
-    ∙ seen_retired (phased (Delayed c.args.until)) c.args.call s.rows.items s.posted s.waiting s.room s.causes _ (tables_phased (Delayed c.args.until) c.args.call s.rows.items (queue_at s.posted 0) s.causes) (λ r. refl))
+    ap (λ (b : Kept). with_later b s.later.items) (ap (λ (xs : List RowView). kept_of xs s.posted.calls c.remove.new.self s.room s.causes) is
+    ∙ ap (λ (q : Queues). kept_of (changed_row (phased (Delayed c.args.until)) c.args.call s.rows.items) s.posted.calls q s.room s.causes) c.remove.ensures.queues
+    ∙ seen_retired (phased (Delayed c.args.until)) c.args.call s.rows.items s.posted.calls s.waiting s.room s.causes _ (tables_phased (Delayed c.args.until) c.args.call s.rows.items s.posted.calls s.causes) (λ r. refl))
     ∙ ap (λ (b : Kept). with_tables b (phased_at b.tables c.args.call (Delayed c.args.until))) c.self.view_is
 
 pub push_reserved-requires : goal.push_reserved-requires
 push_reserved-requires c =
     let s = c.self.inside in
-    let n : length c.args.self.now.tables.issues ≡ length s.rows.items = issues-length s.rows.items s.posted s.waiting s.room s.causes s.later.items c.args.self.now c.self.view_is in
+    let n : length c.args.self.now.tables.issues ≡ length s.rows.items = issues-length s.rows.items s.posted.calls s.waiting s.room s.causes s.later.items c.args.self.now c.self.view_is in
     let high : c.args.call ≤ length s.rows.items = omega (arith, n, c.requires) in
     let fits : length (filter (stays s.rows.items c.args.call) s.delayed.items) < vec_capacity s.delayed = delayed_fits c.args.call s.rows.items s.delayed.items (vec_capacity s.delayed) s.room high c.self.invariant.0.within c.self.invariant.1 in
     let is : c.clean.new.delayed.items ≡ filter (stays s.rows.items c.args.call) s.delayed.items = rw (← c.deref.ensures.value) c.clean.ensures.items in

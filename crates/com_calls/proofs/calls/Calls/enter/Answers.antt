@@ -16,7 +16,7 @@ pub invariant_of-self : goal.invariant_of-self
 invariant_of-self c =
     let s = c.self.inside in
     let is : take s.rows.len (c.admit.new.rows ++ drop (length c.admit.new.rows) s.rows.items) ≡ changed_row (admitting c.args.admission) c.args.admission.call s.rows.items = grind (arith, common_steps) in (
-      rw (is, c.remove.ensures.queues) (kept_retired (admitting c.args.admission) c.args.admission.call s.rows.items s.posted s.waiting s.rows.cap s.room s.causes c.self.invariant.0 (λ r. refl) (entered_waits_not c.args.admission)),
+      rw (is, c.remove.ensures.queues) (kept_retired (admitting c.args.admission) c.args.admission.call s.rows.items s.posted.calls s.waiting s.rows.cap s.room s.causes c.self.invariant.0 (λ r. refl) (entered_waits_not c.args.admission)),
       rw is (covered_fewer (admitting c.args.admission) c.args.admission.call s.rows.items s.delayed.items (vec_capacity s.delayed) s.room (λ r h. h) c.self.invariant.1),
       rw is (numbered_changed (admitting c.args.admission) c.args.admission.call s.rows.items (λ r. refl) c.self.invariant.2),
       c.self.invariant.3,
@@ -27,7 +27,7 @@ pub returns : goal.returns
 returns c =
     let s = c.self.inside in
     let is : take s.rows.len (c.admit.new.rows ++ drop (length c.admit.new.rows) s.rows.items) ≡ changed_row (admitting c.args.admission) c.args.admission.call s.rows.items = grind (arith, common_steps) in
-    ap (λ (b : Kept). with_later b s.later.items) (ap (λ (xs : List RowView). kept_of xs s.posted c.remove.new.self s.room s.causes) is
-    ∙ ap (λ (q : Queues). kept_of (changed_row (admitting c.args.admission) c.args.admission.call s.rows.items) s.posted q s.room s.causes) c.remove.ensures.queues
-    ∙ seen_retired (admitting c.args.admission) c.args.admission.call s.rows.items s.posted s.waiting s.room s.causes _ (tables_entered c.args.admission s.rows.items (queue_at s.posted 0) s.causes) (λ r. refl))
+    ap (λ (b : Kept). with_later b s.later.items) (ap (λ (xs : List RowView). kept_of xs s.posted.calls c.remove.new.self s.room s.causes) is
+    ∙ ap (λ (q : Queues). kept_of (changed_row (admitting c.args.admission) c.args.admission.call s.rows.items) s.posted.calls q s.room s.causes) c.remove.ensures.queues
+    ∙ seen_retired (admitting c.args.admission) c.args.admission.call s.rows.items s.posted.calls s.waiting s.room s.causes _ (tables_entered c.args.admission s.rows.items s.posted.calls s.causes) (λ r. refl))
     ∙ ap (λ (b : Kept). with_tables b (entered_at b.tables c.args.admission)) c.self.view_is

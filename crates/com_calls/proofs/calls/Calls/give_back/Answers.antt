@@ -16,7 +16,7 @@ pub invariant_of-self : goal.invariant_of-self
 invariant_of-self c =
     let s = c.self.inside in
     let is : take s.rows.len (c.give_back.new.rows ++ drop (length c.give_back.new.rows) s.rows.items) ≡ changed_row returning c.args.call s.rows.items = grind (arith, common_steps) in (
-      rw is (kept_same returning c.args.call s.rows.items s.posted s.waiting s.rows.cap s.room s.causes c.self.invariant.0 (λ r. refl) (λ a r. refl)),
+      rw is (kept_same returning c.args.call s.rows.items s.posted.calls s.waiting s.rows.cap s.room s.causes c.self.invariant.0 (λ r. refl) (λ a r. refl)),
       rw is (covered_fewer returning c.args.call s.rows.items s.delayed.items (vec_capacity s.delayed) s.room (λ r h. h) c.self.invariant.1),
       rw is (numbered_changed returning c.args.call s.rows.items (λ r. refl) c.self.invariant.2),
       c.self.invariant.3,
@@ -27,6 +27,6 @@ pub returns : goal.returns
 returns c =
     let s = c.self.inside in
     let is : take s.rows.len (c.give_back.new.rows ++ drop (length c.give_back.new.rows) s.rows.items) ≡ changed_row returning c.args.call s.rows.items = grind (arith, common_steps) in
-    ap (λ (b : Kept). with_later b s.later.items) (ap (λ (xs : List RowView). kept_of xs s.posted s.waiting s.room s.causes) is
-    ∙ seen_same returning c.args.call s.rows.items s.posted s.waiting s.room s.causes _ (tables_returned c.args.call s.rows.items (queue_at s.posted 0) s.causes) (λ r. refl))
+    ap (λ (b : Kept). with_later b s.later.items) (ap (λ (xs : List RowView). kept_of xs s.posted.calls s.waiting s.room s.causes) is
+    ∙ seen_same returning c.args.call s.rows.items s.posted.calls s.waiting s.room s.causes _ (tables_returned c.args.call s.rows.items s.posted.calls s.causes) (λ r. refl))
     ∙ ap (λ (b : Kept). with_tables b (returned_at b.tables c.args.call)) c.self.view_is

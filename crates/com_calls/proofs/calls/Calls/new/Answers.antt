@@ -7,8 +7,8 @@ use Rattle.com_calls.proofs.calls.Calls.new.Goals as goal
 pub invariant_of-result : goal.invariant_of-result
 invariant_of-result c = (
   search rules,
-  rw (c.new-3.ensures.items, c.in_ok-delayed.ensures.items) (covered_none 0 (vec_capacity c.in_ok-delayed.delayed) (grind (arith, common_steps))),
-  rw c.new-3.ensures.items numbered_none,
+  rw (c.new-2.ensures.items, c.in_ok-delayed.ensures.items) (covered_none 0 (vec_capacity c.in_ok-delayed.delayed) (grind (arith, common_steps))),
+  rw c.new-2.ensures.items numbered_none,
   grind (arith, common_steps),
   grind (arith, common_steps),
 )

@@ -12,5 +12,5 @@ returns c =
     let s = c.self.inside in
     c.least_wait.ensures
     ∙ ap₂ (λ (xs : List RowView) (ds : List ℕ). least (filter_map (λ k. row_wait c.args.now (row_at xs k)) ds)) c.deref.ensures.value c.deref-2.ensures.value
-    ∙ next-seen s.rows.items s.posted s.waiting (vec_capacity s.delayed) s.room s.causes c.args.now s.delayed.items c.self.invariant.1
+    ∙ next-seen s.rows.items s.posted.calls s.waiting (vec_capacity s.delayed) s.room s.causes c.args.now s.delayed.items c.self.invariant.1
     ∙ ap (λ (b : Kept). next_wait b c.args.now) c.self.view_is

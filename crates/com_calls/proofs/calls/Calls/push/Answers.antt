@@ -13,13 +13,13 @@ use Rattle.com_calls.proofs.calls.Calls.push.Goals as goal
 pub invariant_of-self : goal.invariant_of-self
 invariant_of-self c =
     let s = c.self.inside in
-    let n : length c.args.self.now.tables.issues ≡ length s.rows.items = issues-length s.rows.items s.posted s.waiting s.room s.causes s.later.items c.args.self.now c.self.view_is in
+    let n : length c.args.self.now.tables.issues ≡ length s.rows.items = issues-length s.rows.items s.posted.calls s.waiting s.room s.causes s.later.items c.args.self.now c.self.view_is in
     let room : s.room ≡ c.args.self.now.room = ap (λ (b : Kept). b.room) c.self.view_is in
     let inboxes : length s.waiting.queues ≡ c.args.self.now.inboxes = ap (λ (b : Kept). b.inboxes) c.self.view_is in
     let home : c.new.result.apartment ≡ c.args.issued.apartment = ap (λ (r : RowView). r.apartment) c.new.ensures in
     let one : c.causalities_of.result ≤ 1 = let low = drawn-low c.args.is_outermost in omega (arith, low, c.causalities_of.ensures) in (
       rw (c.push_reserved.ensures.items, c.push_reserved.ensures.capacity)
-          (kept_grown s.rows.items c.new.result s.posted s.waiting s.rows.cap s.room s.causes c.causalities_of.result c.self.invariant.0 (omega (arith, n, room, c.requires.room)) one (omega (arith, home, inboxes, c.requires.inbox))
+          (kept_grown s.rows.items c.new.result s.posted.calls s.waiting s.rows.cap s.room s.causes c.causalities_of.result c.self.invariant.0 (omega (arith, n, room, c.requires.room)) one (omega (arith, home, inboxes, c.requires.inbox))
           (λ a. subst (λ (r : RowView). row_waits a r ≡ false) (sym c.new.ensures) (new_waits_not c.args.issue c.args.issued c.args.clock a))),
       rw (c.push_reserved.ensures.items) (covered_grown c.new.result s.rows.items s.delayed.items (vec_capacity s.delayed) s.room (ap (λ (r : RowView). is_delayed r.phase r.ending) c.new.ensures) c.self.invariant.1),
       rw (c.push_reserved.ensures.items) (numbered_grown c.new.result s.rows.items (ap (λ (r : RowView). r.issue.call) c.new.ensures ∙ c.requires.number ∙ ap (λ (k : ℕ). k + 1) n) c.self.invariant.2),
@@ -30,7 +30,7 @@ invariant_of-self c =
 pub returns : goal.returns
 returns c =
     let s = c.self.inside in
-    ap (λ (xs : List RowView). with_later (kept_of xs s.posted s.waiting s.room (c.causalities_of.result + s.causes)) s.later.items) (c.push_reserved.ensures.items ∙ ap (λ (r : RowView). s.rows.items ++ r ∷ []) c.new.ensures)
-    ∙ seen_grown c.args.issue c.args.issued c.args.clock s.rows.items s.later.items s.posted s.waiting s.room s.causes c.causalities_of.result (omega (arith, c.self.invariant.4, s.rows.ok.0, s.later.ok.0))
+    ap (λ (xs : List RowView). with_later (kept_of xs s.posted.calls s.waiting s.room (c.causalities_of.result + s.causes)) s.later.items) (c.push_reserved.ensures.items ∙ ap (λ (r : RowView). s.rows.items ++ r ∷ []) c.new.ensures)
+    ∙ seen_grown c.args.issue c.args.issued c.args.clock s.rows.items s.later.items s.posted.calls s.waiting s.room s.causes c.causalities_of.result (omega (arith, c.self.invariant.4, s.rows.ok.0, s.later.ok.0))
     ∙ ap (λ (b : Kept). with_call b c.args.issued.apartment (grown_at b.tables c.args.issue (record { refusal = c.args.issued.refusal; values = c.args.issued.values }) c.args.clock c.causalities_of.result)) c.self.view_is
     ∙ ap (λ (n : ℕ). with_call c.args.self.now c.args.issued.apartment (grown_at c.args.self.now.tables c.args.issue (record { refusal = c.args.issued.refusal; values = c.args.issued.values }) c.args.clock n)) c.causalities_of.ensures

@@ -7,17 +7,14 @@ use Rattle.com_calls.proofs.calls.Calls.reserve.Goals as goal
 pub invariant_of-self-2 : goal.invariant_of-self-2
 invariant_of-self-2 c =
     let s = c.self.inside in
-    let posted = c.in_ok-reserve-2.ensures.queues in
-    let waiting = c.in_ok-reserve-5.ensures.queues in
-    let more_posted : length c.reserve-2.new.self.queues ≡ length s.posted.queues + (1 - length s.posted.queues) = ap (λ (qs : List (List ℕ)). length qs) posted ∙ length-filled s.posted.queues (1 - length s.posted.queues) in
-    let more_waiting : length c.reserve-5.new.self.queues ≡ length s.waiting.queues + (c.args.apartment + 1 - length s.waiting.queues) = ap (λ (qs : List (List ℕ)). length qs) waiting ∙ length-filled s.waiting.queues (c.args.apartment + 1 - length s.waiting.queues) in (
+    let waiting = c.in_ok-reserve-4.ensures.queues in
+    let more_waiting : length c.reserve-4.new.self.queues ≡ length s.waiting.queues + (c.args.apartment + 1 - length s.waiting.queues) = ap (λ (qs : List (List ℕ)). length qs) waiting ∙ length-filled s.waiting.queues (c.args.apartment + 1 - length s.waiting.queues) in (
       rw c.reserve.ensures.items
-          (kept_roomier s.rows.items s.posted s.waiting c.reserve-2.new.self c.reserve-5.new.self s.rows.cap (vec_capacity c.reserve.new.self) s.room c.room_for-room.result s.causes c.self.invariant.0
-          (λ a. ap (λ (qs : List (List ℕ)). slice_index_or qs a []) posted ∙ queue-filled s.posted.queues (1 - length s.posted.queues) a)
+          (kept_roomier s.rows.items s.posted.calls s.waiting c.reserve-4.new.self s.rows.cap (vec_capacity c.reserve.new.self) s.room c.room_for-room.result s.causes c.self.invariant.0
           (λ a. ap (λ (qs : List (List ℕ)). slice_index_or qs a []) waiting ∙ queue-filled s.waiting.queues (c.args.apartment + 1 - length s.waiting.queues) a)
-          (omega (arith, more_posted)) (omega (arith, more_waiting)) c.room_for-room.ensures.grows (grind (arith, common_steps)) (grind (arith, common_steps)) (grind (arith, common_steps))),
-      rw (c.reserve.ensures.items, c.reserve-3.ensures.items) (covered_roomier s.rows.items s.delayed.items (vec_capacity s.delayed) s.room (vec_capacity c.reserve-3.new.self) c.room_for-room.result (grind (arith, common_steps)) c.self.invariant.1),
+          (omega (arith, more_waiting)) c.room_for-room.ensures.grows (grind (arith, common_steps)) (grind (arith, common_steps))),
+      rw (c.reserve.ensures.items, c.reserve-2.ensures.items) (covered_roomier s.rows.items s.delayed.items (vec_capacity s.delayed) s.room (vec_capacity c.reserve-2.new.self) c.room_for-room.result (grind (arith, common_steps)) c.self.invariant.1),
       rw c.reserve.ensures.items c.self.invariant.2,
       grind (arith, common_steps),
-      omega (arith, c.self.invariant.4, c.reserve.ensures.len, c.reserve-4.ensures.len),
+      omega (arith, c.self.invariant.4, c.reserve.ensures.len, c.reserve-3.ensures.len),
     )
