@@ -1,11 +1,10 @@
 -- The arguments of a call can travel: each is of its kind, and on the routes that marshal each reference is to a connected object.
-use Rattle.std.proofs.Common.{◌≡◌, ℕ, zero, suc, ◌<◌, ◌≤◌, Bool, true, false, cond, List, [], ◌∷◌, length, Some, None, sym, refl, arith}
+use Rattle.std.proofs.Common.{◌≡◌, ℕ, suc, Bool, true, false, cond, List, [], ◌∷◌, Some, None, refl, arith}
 use Rattle.std.proofs.lemmas.Grind.{common_steps}
 use Rattle.std.proofs.lemmas.Str.{IsUtf8-nil}
 use Rattle.std.specs.Prelude.{All}
 use Rattle.com_base.specs.declared.value.Kind.{Kind}
 use Rattle.com_base.specs.declared.value.Kind.TheVariants as kind
-use Rattle.com_base.specs.declared.value.RefValue.{RefValue}
 use Rattle.com_base.specs.declared.value.Value.{Value}
 use Rattle.com_base.specs.declared.value.Value.TheVariants as value
 use Rattle.com_base.specs.Values.{as_kind, default_of, has_kind}
