@@ -29,7 +29,7 @@ self-same : (x : ℕ) → eqb x x ≡ true
 self-same x = grind (arith, nat_tests)
 
 -- What stays of a list.
-any-filter : (q : ℕ) (p : ℕ → Bool) (xs : List ℕ) → list_any (eqb q) xs ≡ true → p q ≡ true → list_any (eqb q) (filter p xs) ≡ true
+pub any-filter : (q : ℕ) (p : ℕ → Bool) (xs : List ℕ) → list_any (eqb q) xs ≡ true → p q ≡ true → list_any (eqb q) (filter p xs) ≡ true
 any-filter q p [] h k = h
 any-filter q p (x ∷ xs) h k = elim (eqb q x) as (λ b. eqb q x ≡ b → (b || list_any (eqb q) xs) ≡ true → list_any (eqb q) (cond (p x) (x ∷ filter p xs) (filter p xs)) ≡ true) [
   | true ↦ λ e i. rw (ap p (sym (eqb-true q x e)) ∙ k, e) refl
@@ -100,7 +100,7 @@ other-in f zero (r ∷ rs) (suc j) p = refl
 other-in f (suc k) (r ∷ rs) zero p = refl
 other-in f (suc k) (r ∷ rs) (suc j) p = other-in f k rs j (λ q. p (ap (λ (n : ℕ). suc n) q))
 
-other-row : (f : RowView → RowView) (c : ℕ) (rows : List RowView) (x : ℕ) → (x ≡ c → ⊥) → row_at (changed_row f c rows) x ≡ row_at rows x
+pub other-row : (f : RowView → RowView) (c : ℕ) (rows : List RowView) (x : ℕ) → (x ≡ c → ⊥) → row_at (changed_row f c rows) x ≡ row_at rows x
 other-row f zero rows x p = refl
 other-row f (suc k) rows zero p = refl
 other-row f (suc k) rows (suc j) p = other-in f k rows j (λ q. p (ap (λ (n : ℕ). suc n) q))

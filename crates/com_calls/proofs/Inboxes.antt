@@ -433,14 +433,14 @@ shut true true z e = e
 shut true false z e = refl
 shut false y z e = refl
 
-and-none : (x y : Bool) → y ≡ false → (x && y) ≡ false
+pub and-none : (x y : Bool) → y ≡ false → (x && y) ≡ false
 and-none true y e = e
 and-none false y e = refl
 
 pub entered_waits_not : (x : Admission) (a : ℕ) (r : RowView) → row_waits a (admitting x r) ≡ false
 entered_waits_not x a r = shut (r.apartment == a) (is_queued r.phase) false refl
 
-some-else : (e : Option Ending) (x : Ending) → is_none (or_else e (Some x)) ≡ false
+pub some-else : (e : Option Ending) (x : Ending) → is_none (or_else e (Some x)) ≡ false
 some-else None x = refl
 some-else (Some y) x = refl
 

@@ -2,9 +2,10 @@ pub mod Changed
 pub mod Columns
 pub mod Inboxes
 pub mod Entries
-pub mod Cuts
+pub mod CutLemmas
 pub mod RowReads
 pub mod Delays
 pub mod Numbered
 pub mod Leaves
+pub mod Reachables
 mod Walks

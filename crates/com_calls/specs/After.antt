@@ -1,5 +1,5 @@
 -- What entries do to the tables of calls, in steps.
-use Rattle.std.specs.Prelude.{ℕ, zero, suc, ◌+◌, ℤ, pos, negsuc, Bool, true, false, ◌==◌, ◌&&◌, nat_lt}
+use Rattle.std.specs.Prelude.{ℕ, zero, suc, ◌+◌, ℤ, pos, negsuc, Bool, true, false, nat_lt}
 use Rattle.std.specs.Prelude.{if◌then◌else◌, None}
 use Rattle.com_filter.specs.declared.TheConstants.{LEAST_DELAY_MS}
 use Rattle.com_filter.specs.declared.Verdict.{Verdict}
@@ -7,15 +7,10 @@ use Rattle.com_model.specs.declared.deeds.Route.{Route}
 use Rattle.com_model.specs.declared.deeds.Route.TheVariants as route
 use Rattle.com_model.specs.declared.keeps.Ending.TheVariants as ending
 use Rattle.com_model.specs.declared.keeps.Phase.TheVariants as phase
-use Rattle.com_model.specs.Lists.{from_one, or_else, where_true, each_from}
-use Rattle.com_model.specs.Calls.{object_of}
-use Rattle.com_model.specs.Endings.{EndEffect, CutsObject, CutsSta, can_be_cut}
-use Rattle.com_model.specs.State.{let_go}
-use Rattle.com_state.specs.Parts.{CallTables, ObjectTables, issue_at, admission_at, endings_after}
-use Rattle.com_state.specs.Parts.{unread_after}
+use Rattle.com_model.specs.Endings.{EndEffect, CutsObject, CutsSta}
+use Rattle.com_state.specs.Parts.{CallTables, ObjectTables, endings_after, unread_after}
 use Rattle.com_calls.specs.declared.rows.Cut.{Cut}
 use Rattle.com_calls.specs.declared.rows.Cut.TheVariants as cut
-use Rattle.com_calls.specs.Kept.{Kept}
 use Rattle.com_calls.specs.Steps.{ended_at, phased_at, posted_at}
 
 abbrev pub judged_at : CallTables → ℕ → Verdict → (filtered : Bool) → CallTables
@@ -42,26 +37,3 @@ cut_at o t x = record t { endings = endings_after o t x t.endings; unread = unre
 abbrev pub effect_of : Cut → EndEffect
 effect_of (cut.Object p) = CutsObject p
 effect_of (cut.Sta a) = CutsSta a
-
-abbrev pub cut_by : Kept → Cut → (call : ℕ) → Bool
-cut_by b (cut.Object p) c =
-    can_be_cut (issue_at b.tables c) (admission_at b.tables c) && p == object_of (issue_at b.tables c)
-cut_by b (cut.Sta a) c =
-    can_be_cut (issue_at b.tables c) (admission_at b.tables c) && a == from_one b.apartments c 0
-
-abbrev pub cut_one_at : CallTables → ℕ → Bool → CallTables
-cut_one_at t c true = ended_at t c ending.ByDisconnection
-cut_one_at t c false = t
-
--- The rows of the numbers below a bound changed by what their own number says.
-abbrev pub below : {X : Type 0} → (ℕ → X → X) → (bound number : ℕ) → X → X
-below f n c x = if nat_lt c n then f c x else x
-
--- The calls below a number are cut.
-abbrev pub cut_below : Kept → Cut → (bound : ℕ) → CallTables
-cut_below b x n = record b.tables {
-  endings =
-      each_from (below (λ c y. or_else y (where_true (cut_by b x c) ending.ByDisconnection)) n) 1
-      b.tables.endings;
-  unread = each_from (below (λ c vs. let_go (cut_by b x c) vs) n) 1 b.tables.unread;
-}

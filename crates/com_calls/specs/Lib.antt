@@ -6,3 +6,4 @@ pub mod Inside
 pub mod Steps
 pub mod After
 pub mod Leaves
+pub mod Reached

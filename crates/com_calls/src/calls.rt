@@ -13,8 +13,7 @@ ghost use Rattle.com_model.specs.Answers.{S_OK};
 ghost use Rattle.com_model.specs.declared.keeps.Phase.TheVariants.{Unposted, Delayed};
 ghost use Rattle.com_calls.specs.Waits.{next_wait};
 ghost use Rattle.com_calls.specs.Inside.{settles};
-ghost use Rattle.com_calls.specs.After.{judged_at, retried_at, asked_at, cut_at, effect_of, cut_by};
-ghost use Rattle.com_calls.specs.After.{cut_one_at};
+ghost use Rattle.com_calls.specs.After.{judged_at, retried_at, asked_at, cut_at, effect_of};
 ghost use Rattle.com_refs_books.specs.Counting.{count_if};
 ghost use Rattle.com_model.specs.Lists.{first, from_one};
 ghost use Rattle.com_model.specs.Waiting.{post_effect, retries};
@@ -25,7 +24,7 @@ ghost use Rattle.com_calls.specs.Steps.{taken_at, grown_at, out_entry, is_known,
 
 use crate::postings::Postings;
 use crate::rows::{CallRow, Cut, Issued};
-use crate::{later, rows, waits};
+use crate::{cuts, later, rows, waits};
 use com_base::{HOST_STA, HResult, Memory, Rows, Value};
 use com_exchange::Message;
 use com_filter::{LEAST_DELAY_MS, Verdict};
@@ -46,6 +45,9 @@ pub struct Calls {
     // The calls that wait for a time, and some that did: what waits no more is taken out where a call comes
     // in.
     delayed: Vec<u32>,
+    // The calls that a disconnection can reach, and some that it could: what it cannot reach any more is taken
+    // out at the next disconnection.
+    reachable: Vec<u32>,
     // The Leaves that came after the answers, at the indices of their calls. Few calls have one.
     later: Vec<Option<Leaving>>,
     room: u32,
@@ -58,6 +60,7 @@ impl Model for Calls {
     ghost use Rattle.com_calls.specs.Kept.{Kept};
     ghost use Rattle.com_calls.specs.Inside.{kept_of, IsKept, IsCovered};
     ghost use Rattle.com_calls.specs.Fates.{IsNumbered};
+    ghost use Rattle.com_calls.specs.Reached.{IsListed, AreLetGo};
 
     ghost Value = { Kept };
 
@@ -66,7 +69,8 @@ impl Model for Calls {
 
     ghost invariant = { λ s. IsKept s.rows.items s.posted.calls s.waiting (vec_capacity s.rows) s.room s.causes
         × IsCovered s.rows.items s.delayed.items (vec_capacity s.delayed) s.room × IsNumbered s.rows.items
-        × (s.room ≤ vec_capacity s.later) × (vec_len s.later ≤ vec_len s.rows) };
+        × (s.room ≤ vec_capacity s.later) × (vec_len s.later ≤ vec_len s.rows)
+        × IsListed s.rows.items s.reachable.items (vec_capacity s.reachable) s.room × AreLetGo s.rows.items };
 }
 
 impl Calls {
@@ -82,6 +86,7 @@ impl Calls {
             posted: Postings::none(),
             waiting,
             delayed,
+            reachable: Vec::new(alloc),
             later: Vec::new(alloc),
             room: 0,
             causes: 0,
@@ -102,6 +107,8 @@ impl Calls {
         self.rows.reserve(room as usize - self.rows.len())?;
         self.delayed
             .reserve((room as usize + 1).saturating_sub(self.delayed.len()))?;
+        self.reachable
+            .reserve((room as usize).saturating_sub(self.reachable.len()))?;
         self.later
             .reserve((room as usize).saturating_sub(self.later.len()))?;
         self.waiting.reserve(apartment + 1, room)?;
@@ -248,36 +255,13 @@ impl Calls {
         self.cut(Cut::Sta(home));
     }
 
-    // The calls that a disconnection reaches are answered.
+    // The calls that a disconnection reaches are answered. What it could not reach leaves the list.
     fn cut(&mut self, cut: Cut)
         ensures { (o : ObjectTables) → IsNamed o self.old
             → self.new ≡ with_tables self.old (cut_at o self.old.tables (effect_of cut)) }
     {
-        let calls = self.len();
-        for index in 0..calls {
-            self.cut_one(index + 1, cut);
-        }
-    }
-
-    // A disconnection fixes the answer of this call, where it reaches it.
-    fn cut_one(&mut self, call: u32, cut: Cut)
-        requires { 1 ≤ call }
-        ensures { self.new ≡ with_tables self.old (cut_one_at self.old.tables call
-            (cut_by self.old cut call)) }
-    {
-        if self.is_cut(call, cut) {
-            self.end(call, Ending::ByDisconnection);
-        }
-    }
-
-    // Whether a disconnection reaches this call. A number without call is not reached.
-    fn is_cut(&self, call: u32, cut: Cut) -> bool
-        ensures { result ≡ cut_by self.now cut call }
-    {
-        match rows::row_of(&self.rows, call) {
-            None => false,
-            Some(row) => row.is_reached(cut),
-        }
+        cuts::clean(&mut self.reachable, &self.rows);
+        cuts::cut(&mut self.rows, &mut self.waiting, &self.reachable, cut);
     }
 
     /// How many calls there are.
@@ -506,6 +490,7 @@ impl Calls {
         ensures { self.new ≡ with_call self.old issued.apartment (grown_at self.old.tables issue
             (record { refusal = issued.refusal; values = issued.values }) clock (count_if is_outermost)) }
     {
+        cuts::list(&mut self.reachable, issue.call, issue.route);
         self.rows.push_reserved(CallRow::new(issue, issued, clock));
         self.causes = causalities_of(is_outermost) + self.causes;
     }

@@ -4,6 +4,7 @@
 #![tactic(auto)]
 
 mod calls;
+mod cuts;
 mod later;
 mod laws;
 mod postings;

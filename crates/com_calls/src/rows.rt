@@ -5,6 +5,7 @@ ghost use Rattle.com_model.specs.Endings.{is_leave};
 ghost use Rattle.com_calls.specs.Rows.{changed_row, admitting, ending_by, left_with, returning, phased};
 ghost use Rattle.com_calls.specs.Rows.{taken, new_row_of, row_at, reaches, late_of, late_row};
 ghost use Rattle.com_calls.specs.Fates.{IsNumbered};
+ghost use Rattle.com_calls.specs.Reached.{is_reachable};
 ghost use Rattle.com_model.specs.Lists.{from_one, or_else};
 ghost use Rattle.com_model.specs.Places.{left_value};
 ghost use Rattle.std.specs.Option.{option_copied};
@@ -247,6 +248,14 @@ impl CallRow {
         ensures { result ≡ (is_none self.now.admission && is_none self.now.ending) }
     {
         self.entered.is_none() && !self.is_answered()
+    }
+
+    /// Whether a disconnection can still change what is kept of it: where its route is not direct and it is
+    /// neither entered nor answered.
+    pub fn is_reachable(&self) -> bool
+        ensures { result ≡ is_reachable self.now }
+    {
+        self.route.is_marshalled() && self.is_open()
     }
 
     /// Whether a disconnection reaches it: where its route is not direct and it was not entered.

@@ -1,5 +1,5 @@
 -- What is kept of heads and nodes stands for the lists, and goes on to do so after each change.
-use Rattle.std.proofs.Common.{◌≡◌, ◌≢◌, ℕ, ◌+◌, ◌<◌, ◌≤◌, List, [], ◌∷◌, ◌++◌, length, map, Option, None, Some, Bool, true, false, cond, eqb, zero, suc, get_or, set, refl, sym, ap, zero-add, replicate, ◌∙◌, ⊎_elim, arith, slice_get, IsSome, IfSome, take, Result, Ok, Err, is_ok, OnOk}
+use Rattle.std.proofs.Common.{◌≡◌, ◌≢◌, ℕ, ◌+◌, ◌<◌, ◌≤◌, List, [], ◌∷◌, ◌++◌, length, map, Option, None, Some, Bool, true, false, cond, eqb, zero, suc, get_or, set, refl, sym, ap, subst, zero-add, replicate, ◌∙◌, ⊎_elim, arith, slice_get, IsSome, IfSome, take, Result, Ok, Err, is_ok, OnOk}
 use Rattle.std.proofs.lemmas.Bool.{cases_eq, cases_lt, ne_eqb}
 use Rattle.std.proofs.lemmas.Bool.Decides.{nat_tests}
 use Rattle.std.proofs.lemmas.List.{get_or-set_same, get_or-set_other, get_or_past, get_or_read, length-map, append-nil, length-set, get_or-map}
@@ -298,10 +298,17 @@ get_or-replicate d zero i = refl
 get_or-replicate d (suc j) zero = refl
 get_or-replicate d (suc j) (suc i) = get_or-replicate d j i
 
-get_or-filled : {X : Type 0} (d : X) (xs : List X) (j i : ℕ) → get_or (xs ++ replicate j d) i d ≡ get_or xs i d
+pub get_or-filled : {X : Type 0} (d : X) (xs : List X) (j i : ℕ) → get_or (xs ++ replicate j d) i d ≡ get_or xs i d
 get_or-filled d [] j i = get_or-replicate d j i
 get_or-filled d (x ∷ xs) j zero = refl
 get_or-filled d (x ∷ xs) j (suc i) = get_or-filled d xs j i
+
+-- a node that is in a list is written
+pub written_when_held : (xs now : List Node) (j k : ℕ) → xs ++ replicate j free_node ≡ now → IsSome (node_at now k).holder → k < length xs
+written_when_held xs now j k seen held = ⊎_elim (λ lt. lt) (λ le.
+    let e : node_at now k ≡ free_node = ap (λ (ns : List Node). node_at ns k) (sym seen) ∙ get_or-filled free_node xs j k ∙ get_or_past xs k free_node le in
+    let none : IsSome free_node.holder = subst (λ (n : Node). IsSome n.holder) e held in
+    absurd cc) (cases_lt k (length xs))
 
 map_head-filled : (xss : List (List ℕ)) (j : ℕ) → map head_of (xss ++ replicate j []) ≡ map head_of xss ++ replicate j empty_head
 map_head-filled [] zero = refl
@@ -349,6 +356,36 @@ pub record ReadsNode (heads : List Head) (nodes : List Node) (xss : List (List �
   pub head_in : k < length heads
   pub before_in : (z : ℕ) → r.before ≡ Some z → z < length nodes
   pub after_in : (z : ℕ) → r.after ≡ Some z → z < length nodes
+  pub before_held : (z : ℕ) → r.before ≡ Some z → IsSome (node_at nodes z).holder
+  pub after_held : (z : ℕ) → r.after ≡ Some z → IsSome (node_at nodes z).holder
+
+-- a node that a neighbour names is in a list
+some_when : (o : Option ℕ) → (o ≡ None → ⊥) → IsSome o
+some_when None f = absurd (f refl)
+some_when (Some x) f = refl
+
+held_named : (heads : List Head) (nodes : List Node) (xss : List (List ℕ)) → StandsFor heads nodes xss → (o : Option ℕ) → ((y : ℕ) → times_in_all y xss ≡ 0 → names o y ≡ false) → (z : ℕ) → o ≡ Some z → IsSome (node_at nodes z).holder
+held_named heads nodes xss s o out z e = some_when (node_at nodes z).holder (λ none.
+    let absent : times_in_all z xss ≡ 0 = absent_from_holder 0 z xss (sym (s.holder_is z) ∙ none) in
+    grind (arith, nat_tests, out z))
+
+pub node_held : (heads : List Head) (nodes : List Node) (xss : List (List ℕ)) → StandsFor heads nodes xss → (x : ℕ) → IsSome (holder_from 0 x xss) → IsSome (node_at nodes x).holder
+node_held heads nodes xss s x h = rw (s.holder_is x) h
+
+-- what a neighbour's change leaves of the bounds
+pub after_still_in : (nodes nodes₁ : List Node) (a : Option ℕ) → length nodes₁ ≡ length nodes → ((z : ℕ) → a ≡ Some z → z < length nodes) → (z : ℕ) → a ≡ Some z → z < length nodes₁
+after_still_in nodes nodes₁ a same within z e = let low : z < length nodes = within z e in omega (arith, low, same)
+
+-- the neighbours' changes keep the holders
+pub held_after_next : (nodes nodes₁ : List Node) (b a : Option ℕ) → nodes₁ ≡ with_after b a nodes → ((z : ℕ) → b ≡ Some z → z < length nodes) → (y : ℕ) → IsSome (node_at nodes y).holder → IsSome (node_at nodes₁ y).holder
+held_after_next nodes nodes₁ b a e within y h = rw (e, ap (λ (m : Node). m.holder) (node_at-with_after b a nodes y within) ∙ holder-changed (names b y) (node_at nodes y) a) h
+
+pub held_after_previous : (nodes nodes₁ : List Node) (a b : Option ℕ) → nodes₁ ≡ with_before a b nodes → ((z : ℕ) → a ≡ Some z → z < length nodes) → (y : ℕ) → IsSome (node_at nodes y).holder → IsSome (node_at nodes₁ y).holder
+held_after_previous nodes nodes₁ a b e within y h = rw (e, ap (λ (m : Node). m.holder) (node_at-with_before a b nodes y within) ∙ held (names a y) (node_at nodes y)) h
+  where
+    held : (t : Bool) (n : Node) → (cond t (record n { before = b }) n).holder ≡ n.holder
+    held true n = refl
+    held false n = refl
 
 pub held_within : (heads : List Head) (nodes : List Node) (xss : List (List ℕ)) → StandsFor heads nodes xss → (x : ℕ) → IsSome (holder_from 0 x xss) → x < length nodes
 held_within heads nodes xss s x h =
@@ -372,6 +409,8 @@ reads_node heads nodes xss s x k r some is h =
       head_in = omega (arith, holder-within 0 k x xss held, length-heads heads nodes xss s);
       before_in = within_from_names (length nodes) r.before (λ y le. rw b (names-previous_in_all x y xss (stands_within heads nodes xss s y le)));
       after_in = within_from_names (length nodes) r.after (λ y le. rw a (names-next_in_all x y xss (stands_within heads nodes xss s y le)));
+      before_held = held_named heads nodes xss s r.before (λ y none. rw b (names-previous_in_all x y xss none));
+      after_held = held_named heads nodes xss s r.after (λ y none. rw a (names-next_in_all x y xss none));
     }
 
 pub stands_for_itself : (heads : List Head) (nodes : List Node) (xss : List (List ℕ)) → StandsFor heads nodes xss → StandsFor heads nodes (lists_of heads nodes)
@@ -396,6 +435,12 @@ reads_head heads nodes xss s k r lt e =
 pub reads_last_within : (heads : List Head) (nodes : List Node) (xss : List (List ℕ)) → StandsFor heads nodes xss → (k : ℕ) (r : Head) → k < length xss → r ≡ get_or heads k r → (z : ℕ) → r.last ≡ Some z → z < length nodes
 reads_last_within heads nodes xss s k r lt e z last =
     last_within heads nodes xss k s z (ap (λ (h : Head). h.last) (sym (reads_head heads nodes xss s k r lt e)) ∙ last)
+
+pub reads_last_held : (heads : List Head) (nodes : List Node) (xss : List (List ℕ)) → StandsFor heads nodes xss → (k : ℕ) (r : Head) → k < length xss → r ≡ get_or heads k r → (z : ℕ) → r.last ≡ Some z → IsSome (node_at nodes z).holder
+reads_last_held heads nodes xss s k r lt e z last =
+    held_named heads nodes xss s (last_or None (get_or xss k []))
+    (λ y none. names-last y None (get_or xss k []) refl (omega (arith, none, times-le_in_all y k xss)))
+    z (ap (λ (h : Head). h.last) (sym (reads_head heads nodes xss s k r lt e)) ∙ last)
 
 pub stands_after_push : (heads : List Head) (nodes : List Node) (xss : List (List ℕ)) (x k : ℕ) (r : Head) (heads₁ heads₂ : List Head) (nodes₁ nodes₂ nodes₃ : List Node) → StandsFor heads nodes xss
     → k < length xss → x < length nodes → holder_from 0 x xss ≡ None → r ≡ get_or heads k r

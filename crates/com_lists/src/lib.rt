@@ -2,7 +2,7 @@
 //! time on average. Nodes that no list has had take room, and nothing is written there.
 #![tactic(auto)]
 
-ghost use Rattle.std.specs.Prelude.{◌≡◌, ◌-◌, ◌<◌, ◌≤◌, [], ◌++◌, length, replicate, None, IsSome, OnOk};
+ghost use Rattle.std.specs.Prelude.{◌≡◌, ◌+◌, ◌-◌, ◌<◌, ◌≤◌, [], ◌∷◌, ◌++◌, length, replicate, None, IsSome, OnOk};
 ghost use Rattle.std.specs.Prelude.{OnErr, IfOk, IfSome, MatchOption, slice_get, slice_set};
 ghost use Rattle.std.specs.Prelude.{vec_len, vec_capacity};
 ghost use Rattle.std.specs.Option.{ForSome};
@@ -103,9 +103,38 @@ impl Nodes {
             self.written[index] = kept;
             return;
         }
-        fill(&mut self.written, index);
-        self.written.push_reserved(kept);
+        write_behind(&mut self.written, index, kept);
     }
+
+    // What is kept of a node that is in a list, and so is written.
+    fn linked(&self, node: u32) -> Node
+        requires { IsSome (node_at self.now node).holder }
+        ensures { result ≡ node_at self.now node }
+    {
+        self.written[node as usize]
+    }
+
+    // Lets this be kept of a node that is in a list, and so is written.
+    fn rewrite(&mut self, node: u32, kept: Node)
+        requires { IsSome (node_at self.old node).holder }
+        ensures { self.new ≡ slice_set self.old node kept }
+    {
+        self.written[node as usize] = kept;
+    }
+}
+
+// Writes a node behind those that are written, and nodes in no list between. There is room for them.
+#[inline(never)]
+fn write_behind(written: &mut Vec<Node>, index: usize, kept: Node)
+    requires behind { vec_len written.old ≤ index }
+    requires room { index < vec_capacity written.old }
+    ensures items { written.new.items
+        ≡ (written.old.items ++ replicate (index - vec_len written.old) free_node) ++ kept ∷ [] }
+    ensures len { vec_len written.new ≡ index + 1 }
+    ensures capacity { vec_capacity written.old ≤ vec_capacity written.new }
+{
+    fill(written, index);
+    written.push_reserved(kept);
 }
 
 // Writes nodes in no list until so many are written. There is room for them.
@@ -261,11 +290,11 @@ impl Lists {
             holder,
             before,
             after,
-        } = self.nodes.at(node);
+        } = self.nodes.linked(node);
         let Some(head) = holder else { unreachable!() };
         set_next(&mut self.heads, &mut self.nodes, head, before, after);
         set_previous(&mut self.heads, &mut self.nodes, head, after, before);
-        self.nodes.set(node, Node::FREE);
+        self.nodes.rewrite(node, Node::FREE);
     }
 
     /// The node right behind this one in its list. `None` exactly where this one is the last.
@@ -295,7 +324,7 @@ fn set_next(
     after: Option<u32>,
 )
     requires head { head < vec_len heads.old }
-    requires before { ForSome before (λ b. b < length nodes.old) }
+    requires before { ForSome before (λ b. IsSome (node_at nodes.old b).holder) }
     ensures heads_len { vec_len heads.new ≡ vec_len heads.old }
     ensures heads { heads.new.items ≡ with_first head before after heads.old.items }
     ensures nodes_len { length nodes.new ≡ length nodes.old }
@@ -304,8 +333,8 @@ fn set_next(
     match before {
         None => heads[head as usize].first = after,
         Some(before) => {
-            let kept = nodes.at(before);
-            nodes.set(before, Node { after, ..kept });
+            let kept = nodes.linked(before);
+            nodes.rewrite(before, Node { after, ..kept });
         }
     }
 }
@@ -319,7 +348,7 @@ fn set_previous(
     before: Option<u32>,
 )
     requires head { head < vec_len heads.old }
-    requires after { ForSome after (λ a. a < length nodes.old) }
+    requires after { ForSome after (λ a. IsSome (node_at nodes.old a).holder) }
     ensures heads_len { vec_len heads.new ≡ vec_len heads.old }
     ensures heads { heads.new.items ≡ with_last_node head after before heads.old.items }
     ensures nodes_len { length nodes.new ≡ length nodes.old }
@@ -328,8 +357,8 @@ fn set_previous(
     match after {
         None => heads[head as usize].last = before,
         Some(after) => {
-            let kept = nodes.at(after);
-            nodes.set(after, Node { before, ..kept });
+            let kept = nodes.linked(after);
+            nodes.rewrite(after, Node { before, ..kept });
         }
     }
 }

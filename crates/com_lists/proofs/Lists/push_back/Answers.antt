@@ -1,10 +1,10 @@
 use Rattle.std.proofs.Common.{arith}
-use Rattle.com_lists.proofs.ChainLemmas.{reads_last_within, stands_for_itself, stands_after_push, lists_of_stands, length_after_set, same_linked}
+use Rattle.com_lists.proofs.ChainLemmas.{reads_last_held, stands_for_itself, stands_after_push, lists_of_stands, length_after_set, same_linked}
 use Rattle.com_lists.proofs.Lists.push_back.Goals as goal
 
 pub set_next-requires-clause-before : goal.set_next-requires-clause-before
 set_next-requires-clause-before c = λ z e.
-    omega (arith, reads_last_within _ _ _ c.self.invariant c.args.head c.index.result.now (rw (← c.self.view_is) at c.requires.head) c.index.ensures z e)
+    reads_last_held _ _ _ c.self.invariant c.args.head c.index.result.now (rw (← c.self.view_is) at c.requires.head) c.index.ensures z e
 
 pub invariant_of-self : goal.invariant_of-self
 invariant_of-self c =

@@ -1,4 +1,4 @@
-use Rattle.std.proofs.Common.{arith}
+use Rattle.std.proofs.Common.{arith, refl}
 use Rattle.com_lists.specs.Chain.{free_node}
 use Rattle.com_lists.proofs.Stored.{seen_set, seen_set_behind}
 use Rattle.com_lists.proofs.Nodes.set.Goals as goal
@@ -9,5 +9,5 @@ returns-then-index-len c =
 
 pub returns : goal.returns
 returns c =
-    seen_set_behind free_node c.args.kept _ _ _ _ c.self.inside.count c.args.node _ _ _ c.self.view_is c.self.inside.written.ok.0 (omega (arith, c.if-index-len.false, c.len.ensures)) c.requires
-    c.fill.ensures.items c.push_reserved.ensures.items c.fill.ensures.len c.push_reserved.ensures.len
+    seen_set_behind free_node c.args.kept _ _ _ _ c.self.inside.count c.args.node _ c.args.node _ c.self.view_is c.self.inside.written.ok.0 (omega (arith, c.if-index-len.false, c.len.ensures)) c.requires
+    refl c.write_behind.ensures.items refl c.write_behind.ensures.len

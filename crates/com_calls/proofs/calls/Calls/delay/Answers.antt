@@ -1,6 +1,6 @@
 use Rattle.std.proofs.Common.{vec_capacity, ◌≤◌, ◌<◌, ℕ, filter, ◌≡◌, ◌++◌, ◌∙◌, refl, ap, arith, List, length, take, drop}
 use Rattle.std.proofs.lemmas.Grind.{common_steps}
-use Rattle.com_inbox.specs.Queues.{Queues, queue_at}
+use Rattle.com_inbox.specs.Queues.{Queues}
 use Rattle.com_model.specs.declared.keeps.Phase.TheVariants.{Delayed}
 use Rattle.com_calls.specs.Rows.{RowView, changed_row, phased}
 use Rattle.com_calls.specs.Leaves.{with_later}
@@ -11,6 +11,7 @@ use Rattle.com_calls.proofs.Columns.{tables_phased}
 use Rattle.com_calls.proofs.Inboxes.{issues-length, kept_retired, seen_retired, phased_waits_not}
 use Rattle.com_calls.proofs.Delays.{covered_delayed, delayed_fits}
 use Rattle.com_calls.proofs.Numbered.{numbered_changed}
+use Rattle.com_calls.proofs.Reachables.{listed_fewer, let_go_changed}
 use Rattle.com_calls.proofs.calls.Calls.delay.Goals as goal
 
 pub invariant_of-self : goal.invariant_of-self
@@ -24,6 +25,8 @@ invariant_of-self c =
       rw is (numbered_changed (phased (Delayed c.args.until)) c.args.call s.rows.items (λ r. refl) c.self.invariant.2),
       c.self.invariant.3,
       c.self.invariant.4,
+      rw is (listed_fewer (phased (Delayed c.args.until)) c.args.call s.rows.items s.reachable.items (vec_capacity s.reachable) s.room (λ r h. h) c.self.invariant.5),
+      rw is (let_go_changed (phased (Delayed c.args.until)) c.args.call s.rows.items (λ r h. h) c.self.invariant.6),
     )
 
 pub returns : goal.returns

@@ -1,6 +1,6 @@
 use Rattle.std.proofs.Common.{vec_capacity, ◌≡◌, ◌++◌, ◌∙◌, refl, ap, arith, List, length, take, drop}
 use Rattle.std.proofs.lemmas.Grind.{common_steps}
-use Rattle.com_inbox.specs.Queues.{Queues, queue_at}
+use Rattle.com_inbox.specs.Queues.{Queues}
 use Rattle.com_calls.specs.Rows.{RowView, changed_row, ending_by}
 use Rattle.com_calls.specs.Leaves.{with_later}
 use Rattle.com_calls.specs.Kept.{Kept, with_tables}
@@ -10,6 +10,7 @@ use Rattle.com_calls.proofs.Columns.{tables_ended}
 use Rattle.com_calls.proofs.Inboxes.{kept_retired, seen_retired, ended_waits_not}
 use Rattle.com_calls.proofs.Delays.{covered_fewer, ended_fewer}
 use Rattle.com_calls.proofs.Numbered.{numbered_changed}
+use Rattle.com_calls.proofs.Reachables.{listed_fewer, let_go_changed, ended_unreached}
 use Rattle.com_calls.proofs.calls.Calls.end.Goals as goal
 
 pub invariant_of-self : goal.invariant_of-self
@@ -21,6 +22,8 @@ invariant_of-self c =
       rw is (numbered_changed (ending_by c.args.ending) c.args.call s.rows.items (λ r. refl) c.self.invariant.2),
       c.self.invariant.3,
       c.self.invariant.4,
+      rw is (listed_fewer (ending_by c.args.ending) c.args.call s.rows.items s.reachable.items (vec_capacity s.reachable) s.room (ended_unreached c.args.ending) c.self.invariant.5),
+      rw is (let_go_changed (ending_by c.args.ending) c.args.call s.rows.items (λ r h e. refl) c.self.invariant.6),
     )
 
 pub returns : goal.returns

@@ -12,6 +12,7 @@ use Rattle.com_calls.proofs.Inboxes.{kept_retired, seen_left, left_waits_not}
 use Rattle.com_calls.proofs.Delays.{covered_fewer, ended_fewer}
 use Rattle.com_calls.proofs.Leaves.{late_within}
 use Rattle.com_calls.proofs.Numbered.{numbered_changed}
+use Rattle.com_calls.proofs.Reachables.{listed_fewer, let_go_changed, left_unreached}
 use Rattle.com_calls.proofs.calls.Calls.leave_row.Goals as goal
 
 pub invariant_of-self : goal.invariant_of-self
@@ -25,6 +26,8 @@ invariant_of-self c =
       rw is (numbered_changed (left_with c.args.call c.args.hr c.args.value) c.args.call s.rows.items (λ r. refl) c.self.invariant.2),
       omega (arith, c.self.invariant.3, c.keep.ensures.capacity),
       c.keep.ensures.len s.rows.len c.self.invariant.4 (λ l e. omega (arith, late_within c.args.call s.rows.items (record { call = c.args.call; hr = c.args.hr; value = c.args.value }) l (sym came ∙ e), s.rows.ok.0)),
+      rw is (listed_fewer (left_with c.args.call c.args.hr c.args.value) c.args.call s.rows.items s.reachable.items (vec_capacity s.reachable) s.room (left_unreached c.args.call c.args.hr c.args.value) c.self.invariant.5),
+      rw is (let_go_changed (left_with c.args.call c.args.hr c.args.value) c.args.call s.rows.items (λ r h e. refl) c.self.invariant.6),
     )
 
 pub returns : goal.returns

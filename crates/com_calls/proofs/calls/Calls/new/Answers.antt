@@ -2,6 +2,7 @@ use Rattle.std.proofs.Common.{rules, arith, vec_capacity}
 use Rattle.std.proofs.lemmas.Grind.{common_steps}
 use Rattle.com_calls.proofs.Delays.{covered_none}
 use Rattle.com_calls.proofs.Numbered.{numbered_none}
+use Rattle.com_calls.proofs.Reachables.{listed_none}
 use Rattle.com_calls.proofs.calls.Calls.new.Goals as goal
 
 pub invariant_of-result : goal.invariant_of-result
@@ -11,4 +12,6 @@ invariant_of-result c = (
   rw c.new-2.ensures.items numbered_none,
   grind (arith, common_steps),
   grind (arith, common_steps),
+  rw (c.new-2.ensures.items, c.new-3.ensures.items) (listed_none (vec_capacity c.new-3.result)),
+  rw c.new-2.ensures.items tt,
 )

@@ -11,6 +11,7 @@ use Rattle.com_calls.specs.Steps.{posted_at}
 use Rattle.com_calls.proofs.Inboxes.{is_open, holder_without, issues-length, kept_posted, kept_posted_closed, seen_posted, seen_posted_closed}
 use Rattle.com_calls.proofs.Delays.{covered_fewer, queued_no}
 use Rattle.com_calls.proofs.Numbered.{numbered_changed}
+use Rattle.com_calls.proofs.Reachables.{listed_fewer, let_go_changed}
 use Rattle.com_calls.proofs.calls.Calls.post.Goals as goal
 
 pub post-requires-clause-free : goal.post-requires-clause-free
@@ -30,6 +31,8 @@ invariant_of-self c =
       rw is (numbered_changed (phased Queued) c.args.call s.rows.items (λ r. refl) c.self.invariant.2),
       c.self.invariant.3,
       c.self.invariant.4,
+      rw is (listed_fewer (phased Queued) c.args.call s.rows.items s.reachable.items (vec_capacity s.reachable) s.room (λ r h. h) c.self.invariant.5),
+      rw is (let_go_changed (phased Queued) c.args.call s.rows.items (λ r h. h) c.self.invariant.6),
     )
 
 pub invariant_of-self-2 : goal.invariant_of-self-2
@@ -48,6 +51,8 @@ invariant_of-self-2 c =
       rw is (numbered_changed (phased Queued) c.args.call s.rows.items (λ r. refl) c.self.invariant.2),
       c.self.invariant.3,
       c.self.invariant.4,
+      rw is (listed_fewer (phased Queued) c.args.call s.rows.items s.reachable.items (vec_capacity s.reachable) s.room (λ r h. h) c.self.invariant.5),
+      rw is (let_go_changed (phased Queued) c.args.call s.rows.items (λ r h. h) c.self.invariant.6),
     )
 
 pub returns-then-not-open : goal.returns-then-not-open
