@@ -1,5 +1,5 @@
 -- Bytes that are gathered behind those of a sink.
-use Rattle.std.proofs.Common.{◌≡◌, ℕ, ◌≤◌, ◌+◌, zero, suc, List, [], ◌∷◌, ◌++◌, length, take, drop, Option, Some, None, refl, ap, sym, ◌∙◌, append_assoc, append-nil, arith}
+use Rattle.std.proofs.Common.{◌≡◌, ℕ, ◌≤◌, ◌+◌, zero, suc, List, [], ◌∷◌, ◌++◌, length, take, drop, Option, Some, None, refl, ap, sym, ◌∙◌, append_assoc, append-nil, arith, length-take}
 use Rattle.std.proofs.lemmas.List.{take-append-drop}
 use Rattle.std.proofs.Math.Seq.{drop-nil}
 use Rattle.com_io.specs.Told.{Gains}
@@ -52,6 +52,17 @@ gathered old new kept xs ys more at h grown same =
     ∙ ap (with_kept new) (drop_front xs more at h)
     ∙ sym (with_both new (drop at xs) more)
     ∙ ap (λ held. with_kept held more) same
+
+-- What was gathered in a room, and the bytes that were laid behind it.
+pub laid_behind : (old new : Option (List ℕ)) (kept room seen lent later from : List ℕ) (first last at end count : ℕ) → kept ≡ drop first (take last room) → seen ≡ room → lent ≡ room
+    → at ≤ end → end ≤ length room → count ≤ length from → take (end + length (take count from)) later ≡ take end lent ++ take count from
+    → with_kept new (drop at (take end seen)) ≡ with_kept old (drop first (take last seen)) → Gains (with_kept old kept) (with_kept new (drop at (take (end + count) later))) (take count from)
+laid_behind old new kept room seen lent later from first last at end count is sees lends within fits few laid same =
+    let all : length (take count from) ≡ count = omega (arith, length-take count from, few) in
+    let front : length (take end room) ≡ end = omega (arith, length-take end room, fits) in
+    gathered old new kept (take end room) (take (end + count) later) (take count from) at (omega (arith, within, front))
+    (ap (λ n. take (end + n) later) (sym all) ∙ laid ∙ ap (λ xs. take end xs ++ take count from) lends)
+    (ap (λ xs. with_kept new (drop at (take end xs))) (sym sees) ∙ same ∙ ap (λ xs. with_kept old (drop first (take last xs))) sees ∙ ap (with_kept old) (sym is))
 
 -- All that was gathered is held by the sink.
 pub all_handed : (old new : Option (List ℕ)) (kept rest : List ℕ) → rest ≡ [] → with_kept new rest ≡ with_kept old kept → Gains old new kept

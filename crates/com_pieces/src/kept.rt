@@ -1,9 +1,10 @@
 //! What is gathered for a piece.
 
-ghost use Rattle.std.specs.Prelude.{◌≡◌, ◌<◌, ◌≤◌, ◌++◌, [], drop, length, take, vec_capacity, IfOk, OnErr, OnOk};
+ghost use Rattle.std.specs.Prelude.{◌≡◌, ◌+◌, ◌<◌, ◌≤◌, ◌++◌, [], drop, length, take, IfOk, OnErr, OnOk};
 ghost use Rattle.com_io.specs.Faults.{Rose};
 ghost use Rattle.com_io.specs.Told.{Gains};
 ghost use Rattle.com_pieces.specs.Gathered.{with_kept};
+ghost use Rattle.com_pieces.specs.declared.kept.TheConstants.{PIECE};
 
 use com_base::Memory;
 use com_io::{Failed, Sink};
@@ -16,21 +17,23 @@ pub const PIECE: usize = 32_768;
 /// Bytes that are gathered, seen as those that were not handed on yet. Room for a piece is taken at the start.
 #[derive(Debug, Drop)]
 pub struct Kept {
-    bytes: Vec<u8>,
-    // How many of them were handed on.
+    // The room of a piece. What is gathered stands at its front, and what is behind that means nothing.
+    room: Vec<u8>,
+    // Where what was not handed on yet begins.
     at: usize,
+    // Where it ends.
+    end: usize,
 }
 
 impl Model for Kept {
-    ghost use Rattle.std.specs.Prelude.{◌≤◌, drop, length, vec_capacity, vec_len, ℕ, List};
+    ghost use Rattle.std.specs.Prelude.{◌≡◌, ◌≤◌, drop, take, vec_len, ℕ, List};
     ghost use Rattle.com_pieces.specs.declared.kept.TheConstants.{PIECE};
 
     ghost Value = { List ℕ };
 
-    ghost view = { λ k. drop k.at k.bytes.items };
+    ghost view = { λ k. drop k.at (take k.end k.room.items) };
 
-    ghost invariant = { λ k. (k.at ≤ vec_len k.bytes) × (vec_len k.bytes ≤ PIECE)
-        × (PIECE ≤ vec_capacity k.bytes) };
+    ghost invariant = { λ k. (k.at ≤ k.end) × (k.end ≤ PIECE) × (vec_len k.room ≡ PIECE) };
 }
 
 impl Kept {
@@ -39,8 +42,9 @@ impl Kept {
         ensures { IfOk result (λ kept. kept ≡ []) }
     {
         Ok(Kept {
-            bytes: Vec::with_capacity(alloc, PIECE)?,
+            room: vec![in alloc; 0u8; PIECE]?,
             at: 0,
+            end: 0,
         })
     }
 
@@ -52,7 +56,7 @@ impl Kept {
         ensures failed { OnErr result (Rose (K.faults_of sink.old) (K.faults_of sink.new)) }
         ensures counts { K.faults_of sink.old ≤ K.faults_of sink.new }
     {
-        hand_on(&mut self.bytes, &mut self.at, sink)
+        hand_on(self.room.as_slice(), &mut self.at, &mut self.end, sink)
     }
 
     /// Gathers bytes from the front of `from`, as many as there is room for in the piece, and answers how many: at
@@ -69,37 +73,72 @@ impl Kept {
         ensures failed { OnErr result (Rose (K.faults_of sink.old) (K.faults_of sink.new)) }
         ensures counts { K.faults_of sink.old ≤ K.faults_of sink.new }
     {
-        if self.bytes.len() >= PIECE {
-            hand_on(&mut self.bytes, &mut self.at, sink)?;
-        }
-        let count = from.len().min(PIECE - self.bytes.len());
-        match self.bytes.extend_from_slice(&from[..count]) {
-            Ok(()) => Ok(count),
-            Err(_) => unreachable!(),
-        }
+        hand_on_full(self.room.as_slice(), &mut self.at, &mut self.end, sink)?;
+        let count = from.len().min(PIECE - self.end);
+        put(&mut self.room, self.end, &from[..count]);
+        self.end += count;
+        Ok(count)
     }
 }
 
-// Hands on the bytes from `at` on, and lets go of all once they are. Where a write fails, `at` stands behind those that
-// were handed on.
-#[tactic(auto, using(crate::proofs::Gathering::handed_more, crate::proofs::Gathering::handed_all))]
-fn hand_on<K: Sink>(bytes: &mut Vec<u8>, at: &mut usize, sink: &mut K) -> Result<(), Failed>
-    requires { at.old ≤ length bytes.old.items }
-    ensures none { OnOk result (bytes.new.items ≡ []) }
-    ensures start { OnOk result (at.new ≡ 0) }
-    ensures bytes { OnErr result (bytes.new.items ≡ bytes.old.items) }
-    ensures within { OnErr result (at.new ≤ length bytes.new.items) }
-    ensures capacity { vec_capacity bytes.old ≤ vec_capacity bytes.new }
-    ensures same { with_kept (K.held sink.new) (drop at.new bytes.new.items)
-        ≡ with_kept (K.held sink.old) (drop at.old bytes.old.items) }
+// Lays bytes into a room from `end` on.
+#[inline(always)]
+fn put(room: &mut Vec<u8>, end: usize, bytes: &[u8])
+    requires { end + length bytes.now ≤ length room.old.items }
+    ensures length { length room.new.items ≡ length room.old.items }
+    ensures front { take (end + length bytes.now) room.new.items ≡ take end room.old.items ++ bytes.now }
+{
+    let stop = end + bytes.len();
+    room.as_mut_slice()[end..stop].copy_from_slice(bytes);
+}
+
+// Hands on the bytes of a room between `at` and `end`, where they end a piece, and lets go of them once they are. Where a
+// write fails, `at` stands behind those that were handed on.
+#[inline(always)]
+fn hand_on_full<K: Sink>(
+    room: &[u8],
+    at: &mut usize,
+    end: &mut usize,
+    sink: &mut K,
+) -> Result<(), Failed>
+    requires { (at.old ≤ end.old) × (end.old ≤ PIECE) × (length room.now ≡ PIECE) }
+    ensures more { OnOk result ((at.new ≤ end.new) × (end.new < PIECE)) }
+    ensures within { OnErr result ((at.new ≤ end.new) × (end.new ≡ end.old)) }
+    ensures same { with_kept (K.held sink.new) (drop at.new (take end.new room.now))
+        ≡ with_kept (K.held sink.old) (drop at.old (take end.old room.now)) }
     ensures failed { OnErr result (Rose (K.faults_of sink.old) (K.faults_of sink.new)) }
     ensures counts { K.faults_of sink.old ≤ K.faults_of sink.new }
 {
-    'pieces: while *at < bytes.len() {
-        let count = sink.write(bytes.as_slice().split_at(*at).1)?;
+    if *end < PIECE {
+        return Ok(());
+    }
+    hand_on(room, at, end, sink)
+}
+
+// Hands on the bytes of a room between `at` and `end`, and lets go of them once they are. Where a write fails, `at`
+// stands behind those that were handed on.
+#[inline(never)]
+#[tactic(auto, using(crate::proofs::Gathering::handed_more, crate::proofs::Gathering::handed_all))]
+fn hand_on<K: Sink>(
+    room: &[u8],
+    at: &mut usize,
+    end: &mut usize,
+    sink: &mut K,
+) -> Result<(), Failed>
+    requires { (at.old ≤ end.old) × (end.old ≤ length room.now) }
+    ensures none { OnOk result ((at.new ≡ 0) × (end.new ≡ 0)) }
+    ensures within { OnErr result ((at.new ≤ end.new) × (end.new ≡ end.old)) }
+    ensures same { with_kept (K.held sink.new) (drop at.new (take end.new room.now))
+        ≡ with_kept (K.held sink.old) (drop at.old (take end.old room.now)) }
+    ensures failed { OnErr result (Rose (K.faults_of sink.old) (K.faults_of sink.new)) }
+    ensures counts { K.faults_of sink.old ≤ K.faults_of sink.new }
+{
+    let gathered = room.split_at(*end).0;
+    'pieces: while *at < gathered.len() {
+        let count = sink.write(gathered.split_at(*at).1)?;
         *at += count;
     }
-    bytes.clear();
     *at = 0;
+    *end = 0;
     Ok(())
 }

@@ -19,6 +19,7 @@ use crate::replayed::Replayed;
 use com_base::{ByteList, Memory};
 use com_io::Sink;
 use com_model::{Ended, Scenario};
+use com_report::Line;
 use com_runtime::{Runtime, Standing, end_of};
 use com_schedule::{Tries, take_turn};
 use com_servant::Servant;
@@ -33,13 +34,14 @@ pub enum Turned {
     Over(Ended),
 }
 
-/// Where the schedule stands: how many picks were tried, and the last lane but the clock's, or 0. And the
-/// list in which a line is made, which is empty between two steps.
+/// Where the schedule stands: how many picks were tried, and the last lane but the clock's, or 0. And lines that are
+/// kept to be written, which are none between two steps, and the line of the last entry, whose room is used again.
 #[derive(Debug, Drop)]
 pub struct Course {
     tried: usize,
     last: u32,
     lines: ByteList,
+    line: Line,
 }
 
 impl Course {
@@ -53,10 +55,12 @@ impl Course {
             tried: 0,
             last: 0,
             lines: ByteList::new(alloc),
+            line: Line::new(alloc),
         }
     }
 
     // Has the lane whose turn it is make its entry, where there is room for one and a lane can step.
+    #[inline(always)]
     #[tactic(auto, using(crate::proofs::Turning::no_room))]
     fn lane_turn<C: Tries>(
         &mut self,
@@ -92,6 +96,7 @@ impl Course {
 
     // Has the lane whose turn it is make its entry, or the clock where no lane can step. Where the history
     // has ended, nothing is done.
+    #[inline(always)]
     fn turn<C: Tries>(
         &mut self,
         alloc: Global,
@@ -135,6 +140,7 @@ impl Course {
     /// `WriteFault` comes only where the sink's count of faults rose in this call, and `Memory` is want of
     /// memory, and then nothing was written. After either the lines may be broken off: what was written is a
     /// prefix of what was kept and the turn's line.
+    #[inline(always)]
     #[tactic(auto, using(crate::proofs::Turning::step_failed, com_runtime::proofs::Resting::same_reached))]
     pub fn step<C: Tries, K: Sink>(
         &mut self,
@@ -176,10 +182,10 @@ impl Course {
             Turned::Made => {
                 let place = runtime.entries();
                 show(
-                    alloc,
                     scenario.version,
                     place,
                     runtime.last(),
+                    &mut self.line,
                     &mut self.lines,
                     sink,
                 )?;

@@ -9,7 +9,7 @@ ghost use Rattle.com_replay.specs.declared.lines.ReplayError.TheVariants as repl
 use com_base::ByteList;
 use com_io::{Sink, write_all};
 use com_model::{Counts, Ended, Entry};
-use com_report::{line, report};
+use com_report::{Line, report};
 use std::alloc::{AllocError, Global};
 
 /// Why a replay stopped.
@@ -32,13 +32,14 @@ impl From<AllocError> for ReplayError {
     }
 }
 
-/// Adds the line of an entry to what is kept, and writes it.
-#[tactic(auto, using(com_io::proofs::Passing::prefix_of_none, crate::proofs::Kept::goes_on_sent, crate::proofs::Kept::sent_prefix))]
+/// Makes the line of an entry, and writes what is kept and the line behind it.
+#[inline(always)]
+#[tactic(auto, using(com_io::proofs::Passing::prefix_of_none, crate::proofs::Kept::goes_on_sent, crate::proofs::Kept::sent_prefix, crate::proofs::Kept::goes_on_alone, crate::proofs::Kept::alone_prefix))]
 pub fn show<K: Sink>(
-    alloc: Global,
     version: u8,
     place: u64,
     entry: &Entry,
+    line: &mut Line,
     kept: &mut ByteList,
     sink: &mut K,
 ) -> Result<(), ReplayError>
@@ -52,11 +53,31 @@ pub fn show<K: Sink>(
         → Rose (K.faults_of sink.old) (K.faults_of sink.new) }
     ensures counts { K.faults_of sink.old ≤ K.faults_of sink.new }
 {
-    line(alloc, version, place, entry, kept)?;
+    line.write(version, place, entry)?;
+    if kept.is_empty() {
+        return write(line.as_slice(), sink);
+    }
+    kept.push_all(line.as_slice())?;
     send(kept, sink)
 }
 
+// Writes bytes.
+#[inline(always)]
+fn write<K: Sink>(bytes: &[u8], sink: &mut K) -> Result<(), ReplayError>
+    ensures ok { OnOk result (Gains (K.held sink.old) (K.held sink.new) bytes.now) }
+    ensures prefix { GainsPrefix (K.held sink.old) (K.held sink.new) bytes.now }
+    ensures error { IfErr result (λ error. error ≡ replay_error.WriteFault) }
+    ensures fault { OnErr result (Rose (K.faults_of sink.old) (K.faults_of sink.new)) }
+    ensures counts { K.faults_of sink.old ≤ K.faults_of sink.new }
+{
+    match write_all(sink, bytes) {
+        Ok(()) => Ok(()),
+        Err(_) => Err(ReplayError::WriteFault),
+    }
+}
+
 /// Writes what is kept.
+#[inline(never)]
 pub fn send<K: Sink>(kept: &mut ByteList, sink: &mut K) -> Result<(), ReplayError>
     ensures ok { OnOk result (Gains (K.held sink.old) (K.held sink.new) kept.old) }
     ensures empty { OnOk result (kept.new ≡ []) }
@@ -65,13 +86,9 @@ pub fn send<K: Sink>(kept: &mut ByteList, sink: &mut K) -> Result<(), ReplayErro
     ensures fault { OnErr result (Rose (K.faults_of sink.old) (K.faults_of sink.new)) }
     ensures counts { K.faults_of sink.old ≤ K.faults_of sink.new }
 {
-    match write_all(sink, kept.as_slice()) {
-        Ok(()) => {
-            kept.clear();
-            Ok(())
-        }
-        Err(_) => Err(ReplayError::WriteFault),
-    }
+    write(kept.as_slice(), sink)?;
+    kept.clear();
+    Ok(())
 }
 
 /// Writes what is kept and the report.

@@ -1,7 +1,7 @@
 -- Texts in parts.
-use Rattle.std.proofs.Common.{◌≡◌, ℕ, List, [], ◌∷◌, ◌++◌, ◌+◌, ap, sym, ◌∙◌, append_assoc, arith, ◌<◌, ◌≤◌, length}
-use Rattle.std.proofs.lemmas.Fmt.{length-decimal-le}
-use Rattle.std.proofs.lemmas.List.{flat_map_more}
+use Rattle.std.proofs.Common.{◌≡◌, ℕ, List, [], ◌∷◌, ◌++◌, ◌+◌, ap, sym, ◌∙◌, append_assoc, arith, drop, set, ◌<◌, ◌≤◌, length}
+use Rattle.std.proofs.lemmas.Fmt.{decimal_digit, length-decimal-le}
+use Rattle.std.proofs.lemmas.List.{drop-set, flat_map_more}
 use Rattle.std.specs.Prelude.{codes, decimal}
 use Rattle.std.specs.List.{flat_map}
 use Rattle.com_base.specs.declared.value.Value.{Value}
@@ -12,6 +12,13 @@ use Rattle.com_report.specs.Width.{own_width, values_width}
 -- a number of 64 bits has at most 20 digits
 pub digits_of_64 : (n : ℕ) → n < 18446744073709551616 → length (decimal n) ≤ 20
 digits_of_64 n small = length-decimal-le 20 n (omega arith) (omega arith) small
+
+-- a digit that was written in front of the end
+pub digit_in_front : (room : List ℕ) (n at end : ℕ) → n < 10 → at + 1 ≡ end → end ≤ length room → drop at (set room at (48 + n)) ≡ decimal n ++ drop end room
+digit_in_front room n at end small next within =
+    drop-set room at (48 + n) (omega (arith, next, within))
+    ∙ ap (λ i. (48 + n) ∷ drop i room) next
+    ∙ ap (λ ds. ds ++ drop end room) (sym (decimal_digit n small))
 
 -- values without the last, and then the last behind a comma
 pub values_from_end : (rest others : List Value) (v : Value) (before behind : List ℕ) → rest ≡ others ++ v ∷ [] → before ≡ later_value_text v ++ behind

@@ -3,6 +3,7 @@
 
 mod calls;
 mod deeds;
+mod kept_line;
 mod lines;
 mod pieces;
 mod references;
@@ -12,5 +13,6 @@ mod width;
 mod words;
 
 pub use com_base::Memory;
+pub use kept_line::Line;
 pub use lines::line;
 pub use reports::report;

@@ -64,9 +64,9 @@ fn push_from(out: &mut ByteList, room: &[u8], start: usize) -> Result<(), Memory
     out.push_all(&room[start..])
 }
 
-// Writes an entry's line at the end of the room, and says where it begins.
+/// Writes an entry's line at the end of the room, and says where it begins.
 #[inline(always)]
-fn entry_line(room: &mut [u8], version: u8, place: u64, entry: &Entry) -> usize
+pub(crate) fn entry_line(room: &mut [u8], version: u8, place: u64, entry: &Entry) -> usize
     requires { deed_width entry.now.deed + 208 ≤ length room.old }
     ensures start { result ≤ length room.new }
     ensures written { drop result room.new ≡ line_text version place entry.now }
@@ -78,5 +78,5 @@ fn entry_line(room: &mut [u8], version: u8, place: u64, entry: &Entry) -> usize
     number(room, at, place)
 }
 
-// The room that most lines find on the stack.
-const ROOM: usize = 256;
+/// The room that is enough for most lines.
+pub(crate) const ROOM: usize = 256;

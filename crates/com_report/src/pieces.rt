@@ -1,7 +1,7 @@
 //! What an entry's line is written with. It is written from its end: each piece goes in front of what is
 //! there, since the digits of a number are found from the last to the first. Each of these is given the room
 //! and where the end stands in it, and says where what it wrote begins.
-ghost use Rattle.std.specs.Prelude.{◌≡◌, ◌++◌, ◌+◌, ◌*◌, ◌≤◌, length, drop, decimal, codes, [], ◌∷◌};
+ghost use Rattle.std.specs.Prelude.{◌≡◌, ◌++◌, ◌+◌, ◌*◌, ◌<◌, ◌≤◌, length, drop, decimal, codes, [], ◌∷◌};
 ghost use Rattle.std.specs.Fmt.{signed_decimal};
 ghost use Rattle.hex.specs.Hex.{encode_lower};
 ghost use Rattle.com_model.specs.Text.{hresult_text, named, held_text, asked_text, bytes_text};
@@ -23,7 +23,19 @@ pub fn word(room: &mut [u8], end: usize, word: &[u8]) -> usize
     start
 }
 
-/// Writes a number in decimal digits.
+// Writes a digit.
+#[inline(always)]
+#[tactic(auto, using(crate::proofs::Parts::digit_in_front))]
+fn digit(room: &mut [u8], end: usize, digit: u64) -> usize
+    requires { (digit < 10) × (1 ≤ end) × (end ≤ length room.old) }
+    ensures taken { result + 1 ≡ end }
+    ensures written { drop result room.new ≡ decimal digit ++ drop end room.old }
+{
+    room[end - 1] = b'0' + digit as u8;
+    end - 1
+}
+
+/// Writes a number in decimal digits. Most numbers are below 10.
 #[inline(always)]
 #[tactic(auto, using(crate::proofs::Parts::digits_of_64))]
 pub fn number(room: &mut [u8], end: usize, number: u64) -> usize
@@ -31,6 +43,9 @@ pub fn number(room: &mut [u8], end: usize, number: u64) -> usize
     ensures taken { (result ≤ end) × (end ≤ result + 20) }
     ensures written { drop result room.new ≡ decimal number ++ drop end room.old }
 {
+    if number < 10 {
+        return digit(room, end, number);
+    }
     write_digits(number, room, end)
 }
 

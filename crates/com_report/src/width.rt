@@ -6,6 +6,7 @@ use com_base::{ByteList, Value};
 use com_model::Deed;
 
 /// Room that is enough for a deed's line. None where that is more than the machine can number.
+#[inline(always)]
 pub fn line_room(deed: &Deed) -> Option<usize>
     ensures { IfSome result (λ room. room ≡ deed_width deed.now + 208) }
 {
@@ -13,6 +14,7 @@ pub fn line_room(deed: &Deed) -> Option<usize>
 }
 
 // What a deed's line takes beside its words and numbers.
+#[inline(always)]
 fn deed_width(deed: &Deed) -> Option<usize>
     ensures { IfSome result (λ width. width ≡ deed_width deed.now) }
 {
