@@ -21,21 +21,21 @@ use Rattle.com_model.proofs.Sights.{same-next, same-sight}
 use Rattle.com_model.proofs.Whole.{first-stands}
 use Rattle.com_runtime.proofs.Runs.{stands-later}
 use Rattle.com_runtime.specs.Reports.{all_counts_in}
-use Rattle.com_runtime.specs.Standings.{can_step_in, ended_now, turn_now, CanGo, Reached}
+use Rattle.com_runtime.specs.declared.runtime.Standing.TheVariants as standing
+use Rattle.com_runtime.specs.Standings.{can_step_in, ended_now, standing_of, turn_now, CanGo, Reached}
 use Rattle.com_runtime.specs.Turns.{IsNext}
-use Rattle.com_runtime.proofs.Choices.{ended_runs}
+use Rattle.com_runtime.proofs.Choices.{ended_runs, ended_ticks}
 use Rattle.com_runtime.proofs.Counting.{all-counted}
 use Rattle.com_runtime.proofs.Resting.{reached_by, runs_reached}
 use Rattle.com_runtime.proofs.Limits.{below_limit, one_entry}
-use Rattle.com_schedule.specs.Tried.{Goes, Still, Tried}
-use Rattle.com_schedule.proofs.Trying.{lane_goes, lane_rests}
+use Rattle.com_schedule.specs.Tried.{Tried}
 use Rattle.com_check.specs.declared.judged.Judged.{Judged}
 use Rattle.com_check.specs.declared.judged.Judged.TheVariants as judged
 use Rattle.com_check.specs.Fronts.{named, IsNoLane}
 use Rattle.com_check.specs.Lines.{lines_of}
 use Rattle.com_check.specs.Judging.{IsJudged, Unended, entry_line, entry_of, history_lines, lane_due, lane_of_turn, last_lane, legal_line, line_due, report_lines, shown}
-use Rattle.com_check.specs.Turning.{IsCompared, IsEntry, IsLast, IsLine, IsNextOf, IsOther, IsReported, IsScheduled, IsTold, IsTried, IsTurn, IsWritten, entry_in, lane_in, line_in}
-use Rattle.com_check.proofs.Entries.{entry_made, none_above}
+use Rattle.com_check.specs.Turning.{IsCompared, IsEntry, IsLast, IsNextOf, IsOther, IsReported, IsScheduled, IsTold, IsTried, IsWritten, NamesNone, entry_in, lane_in, line_in}
+use Rattle.com_check.proofs.Entries.{entry_made, none_above, none_still}
 use Rattle.com_check.proofs.Histories.{history_length, nothing_told}
 
 -- ---- a line
@@ -82,47 +82,46 @@ one_line a b same = cc
 not_none : (a : List ℕ) → Some a ≡ None → ⊥
 not_none a same = cc
 
--- The found line beside that of the entry that was made.
-pub turn_compared : (s : Scenario) (st new : State) (last last_new lane n : ℕ) (e : Entry) (found line : List ℕ) (t : Option Judged) → named found ≡ Some lane
-    → IsNext s st lane e new → n ≡ st.entries + 1 → line ≡ entry_line s.version n e → IsCompared n lane found line last t last_new
-    → IsTurn s st last found t new last_new
-turn_compared s st new last last_new lane n e found line None names p count is same = record {
-  entry = e;
-  next = subst (λ (k : ℕ). IsNext s st k e new) (sym p.by) p;
-  line = same.0 ∙ is ∙ ap (λ (k : ℕ). entry_line s.version k e) count;
-  follows = same.1 ∙ ap (λ (k : ℕ). last_after k last) (sym p.by);
-}
-turn_compared s st new last last_new lane n e found line (Some j) names p count is other =
-    let legal : Some line ≡ line_in s st last (Some found) =
-    ap (λ (x : List ℕ). Some x) (is ∙ ap (λ (k : ℕ). entry_line s.version k e) count) ∙ sym (line_made s st new last lane (Some found) e names p) in
+-- The found line is that of the entry that was made.
+pub entry_agrees : (s : Scenario) (st new : State) (last old last_new lane : ℕ) (found line : List ℕ) (b : Bool) → old ≡ last → b ≡ true → IsWritten s st found lane new line
+    → IsCompared lane found line old b last_new → IsEntry s st last found new last_new
+entry_agrees s st new last old last_new lane found line b kept is w same =
+    let both : (found ≡ line) × (last_new ≡ last_after lane old) = subst (λ (x : Bool). IsCompared lane found line old x last_new) is same in
     record {
-      answer = other.1 ∙ ap (λ (k : ℕ). judged.Differs k found line) count
-          ∙ ap (λ (x : Option (List ℕ)). judged.Differs (st.entries + 1) found (shown x)) legal;
-      differ = λ same. other.0 (one_line found line (same ∙ sym legal));
+      entry = w.entry;
+      next = subst (λ (k : ℕ). IsNext s st k w.entry new) (sym w.next.by) w.next;
+      line = both.0 ∙ w.line_is;
+      follows = both.1 ∙ ap (λ (l : ℕ). last_after lane l) kept ∙ ap (λ (k : ℕ). last_after k last) (sym w.next.by);
     }
 
--- A turn that was compared, where the last lane is known by an equation.
-pub turn_settled : (s : Scenario) (st new : State) (last old last_new lane n : ℕ) (e : Entry) (found line : List ℕ) (t : Option Judged) → named found ≡ Some lane
-    → IsNext s st lane e new → n ≡ st.entries + 1 → line ≡ entry_line s.version n e → old ≡ last → IsCompared n lane found line old t last_new
-    → IsTurn s st last found t new last_new
-turn_settled s st new last old last_new lane n e found line t names p count is kept same =
-    turn_compared s st new last last_new lane n e found line t names p count is
-    (subst (λ (k : ℕ). IsCompared n lane found line k t last_new) kept same)
+-- The line of the entry that was made is another one.
+pub entry_differs : (s : Scenario) (st new : State) (last lane n : ℕ) (found line : List ℕ) (j : Judged) → IsWritten s st found lane new line → (found ≡ line → ⊥)
+    → n ≡ new.entries → j ≡ judged.Differs n found line → IsOther s st last (Some found) j
+entry_differs s st new last lane n found line j w other count is =
+    let place : n ≡ st.entries + 1 = count ∙ one_entry s st new lane w.entry w.next in
+    let legal : Some line ≡ line_in s st last (Some found) =
+    ap (λ (x : List ℕ). Some x) w.line_is ∙ sym (line_made s st new last lane (Some found) w.entry w.names w.next) in
+    record {
+      answer = is ∙ ap (λ (k : ℕ). judged.Differs k found line) place
+          ∙ ap (λ (x : Option (List ℕ)). judged.Differs (st.entries + 1) found (shown x)) legal;
+      differ = λ same. other (one_line found line (same ∙ sym legal));
+    }
 
-turn_none : (s : Scenario) (st new : State) (last last_new n : ℕ) (found : List ℕ) (t : Option Judged) → n ≡ st.entries → line_in s st last (Some found) ≡ None
-    → t ≡ Some (judged.Differs (n + 1) found (codes "none")) → IsTurn s st last found t new last_new
-turn_none s st new last last_new n found t count none is =
-    subst (λ (x : Option Judged). IsTurn s st last found x new last_new) (sym is) (record {
-      answer = ap (λ (k : ℕ). judged.Differs (k + 1) found (codes "none")) count
+named_none : (s : Scenario) (st : State) (last : ℕ) (found : List ℕ) (x : Option ℕ) → named found ≡ x → ((l : ℕ) → x ≡ Some l → entry_in s st l ≡ None)
+    → line_in s st last (Some found) ≡ None
+named_none s st last found None e none = no_lane s st last (Some found) e
+named_none s st last found (Some l) e none = no_line s st last l (Some found) e (none l refl)
+
+-- The found line names no lane that has a next entry.
+pub none_legal : (s : Scenario) (st : State) (last n : ℕ) (found : List ℕ) (j : Judged) → NamesNone s st found → ended_now s st ≡ None → n ≡ st.entries
+    → j ≡ judged.Differs (n + 1) found (codes "none") → IsOther s st last (Some found) j
+none_legal s st last n found j names goes count is =
+    let none : line_in s st last (Some found) ≡ None = named_none s st last found (named found) refl (names.none goes) in
+    record {
+      answer = is ∙ ap (λ (k : ℕ). judged.Differs (k + 1) found (codes "none")) count
           ∙ ap (λ (x : Option (List ℕ)). judged.Differs (st.entries + 1) found (shown x)) (sym none);
       differ = λ same. not_none found (same ∙ none);
-    })
-
--- The found line names a lane that has no next entry.
-pub turn_without : (s : Scenario) (st new : State) (last last_new lane n : ℕ) (found : List ℕ) (t : Option Judged) → named found ≡ Some lane
-    → entry_in s st lane ≡ None → n ≡ st.entries → t ≡ Some (judged.Differs (n + 1) found (codes "none")) → IsTurn s st last found t new last_new
-turn_without s st new last last_new lane n found t names none count is =
-    turn_none s st new last last_new n found t count (no_line s st last lane (Some found) names none) is
+    }
 
 few_lanes : (s : Scenario) (st : State) (lane : ℕ) → Reached s st → 2 ^ 32 ≤ lane → lanes s < lane
 unfolding Reached
@@ -130,17 +129,6 @@ few_lanes s st lane r high = few s.pool (length s.threads) lane r.0.pool.1 r.0.t
   where
     few : (p t n : ℕ) → p ≤ 8 → t ≤ 16 → 2 ^ 32 ≤ n → t + 1 + p < n
     few p t n a b c = omega (arith, a, b, c)
-
-unnamed : (s : Scenario) (st : State) (last : ℕ) (found : List ℕ) (x : Option ℕ) → Reached s st → named found ≡ x → IsNoLane x
-    → line_in s st last (Some found) ≡ None
-unnamed s st last found None r e p = no_lane s st last (Some found) e
-unnamed s st last found (Some lane) r e p = no_line s st last lane (Some found) e (none_above s st lane r (few_lanes s st lane r p))
-
--- The found line names no lane.
-pub turn_unnamed : (s : Scenario) (st new : State) (last last_new n : ℕ) (found : List ℕ) (t : Option Judged) → Reached s st → IsNoLane (named found)
-    → n ≡ st.entries → t ≡ Some (judged.Differs (n + 1) found (codes "none")) → IsTurn s st last found t new last_new
-turn_unnamed s st new last last_new n found t r p count is =
-    turn_none s st new last last_new n found t count (unnamed s st last found (named found) r refl p) is
 
 -- The trace has ended in the place of the schedule's entry.
 pub early_by : (s : Scenario) (st new : State) (last n : ℕ) (e : Entry) (line : List ℕ) (j : Judged) → IsScheduled s st last e new → n ≡ st.entries + 1
@@ -357,13 +345,6 @@ judged_last s trace st last rest ls j p cut = by (ended_now s st) refl
     by None goes other = other_judged s trace st last rest ls j p cut goes other
     by (Some x) ends told = judged_told s trace st last rest x j p ends told
 
--- A line that is not that of an entry.
-pub judged_line : (s : Scenario) (trace : List ℕ) (st new : State) (last last_new : ℕ) (rest found behind : List ℕ) (t : Option Judged) (j : Judged)
-    → Sofar s trace st last rest → lines_of rest ≡ found ∷ lines_of behind → t ≡ Some j → IsLine s st last rest found t new last_new → IsJudged s trace j
-judged_line s trace st new last last_new rest found behind t j p cut is line =
-    judged_last s trace st last rest (found ∷ lines_of behind) j p cut
-    (subst (λ (x : Option Judged). IsLine s st last rest found x new last_new) is line)
-
 -- A trace that has ended.
 pub judged_end : (s : Scenario) (trace : List ℕ) (st : State) (last : ℕ) (rest : List ℕ) (j : Judged) → Sofar s trace st last rest → rest ≡ []
     → IsLast s st last rest None (ended_now s st) j → IsJudged s trace j
@@ -380,33 +361,21 @@ pub last_other : (r s : Scenario) (st : State) (last : ℕ) (rest : List ℕ) (f
 last_other r s st last rest found j same goes other =
     subst (λ (y : Option Ended). IsLast s st last rest found y j) (sym goes) (subst (λ (x : Scenario). IsOther x st last found j) same other)
 
-pub line_turned : (r s : Scenario) (st new : State) (last last_new : ℕ) (rest found : List ℕ) (t : Option Judged) → r ≡ s → ended_now s st ≡ None
-    → IsTurn r st last found t new last_new → IsLine s st last rest found t new last_new
-line_turned r s st new last last_new rest found None same goes p = (goes, subst (λ (x : Scenario). IsEntry x st last found new last_new) same p)
-line_turned r s st new last last_new rest found (Some j) same goes p = last_other r s st last rest (Some found) j same goes p
+-- The found line is another one than that of the entry that was made.
+pub judged_other : (s : Scenario) (trace : List ℕ) (st new : State) (last lane n : ℕ) (rest found behind line : List ℕ) (b : Bool) (old last_new : ℕ) (j : Judged)
+    → Sofar s trace st last rest → lines_of rest ≡ found ∷ lines_of behind → IsWritten s st found lane new line → b ≡ false → IsCompared lane found line old b last_new
+    → n ≡ new.entries → j ≡ judged.Differs n found line → IsJudged s trace j
+judged_other s trace st new last lane n rest found behind line b old last_new j p cut w differs compared count is =
+    let other : found ≡ line → ⊥ = subst (λ (x : Bool). IsCompared lane found line old x last_new) differs compared in
+    judged_last s trace st last rest (found ∷ lines_of behind) j p cut
+    (last_other s s st last rest (Some found) j refl w.goes_on (entry_differs s st new last lane n found line j w other count is))
 
--- The line of the entry of a lane that was tried, beside the found one.
-pub line_compared : (s : Scenario) (st new : State) (last old last_new lane n : ℕ) (rest found line : List ℕ) (o : Option ℕ) (t : Option Judged)
-    → n ≡ new.entries → old ≡ last → o ≡ Some lane → IsTried s st found o new line → IsCompared n lane found line old t last_new
-    → IsLine s st last rest found t new last_new
-line_compared s st new last old last_new lane n rest found line o t count kept is tried same =
-    let w : IsWritten s st found lane new line = subst (λ (x : Option ℕ). IsTried s st found x new line) is tried in
-    let place : n ≡ st.entries + 1 = count ∙ one_entry s st new lane w.entry w.next in
-    line_turned s s st new last last_new rest found t refl w.goes_on
-    (turn_settled s st new last old last_new lane n w.entry found line t w.names w.next place
-    (w.line_is ∙ ap (λ (k : ℕ). entry_line s.version k w.entry) (sym place)) kept same)
-
-pub untried : (s : Scenario) (st now : State) (found line : List ℕ) (o : Option ℕ) → ((x : ℕ) → o ≡ Some x → ⊥) → IsTried s st found o now line → now ≡ st
-untried s st now found line None n tried = tried
-untried s st now found line (Some l) n tried = absurd (n l refl)
-
--- Nothing has changed before.
-pub line_stood : (s : Scenario) (st now new : State) (last old last_new : ℕ) (rest found line : List ℕ) (o : Option ℕ) (t : Option Judged)
-    → ((x : ℕ) → o ≡ Some x → ⊥) → IsTried s st found o now line → old ≡ last → IsLine s now old rest found t new last_new
-    → IsLine s st last rest found t new last_new
-line_stood s st now new last old last_new rest found line o t n tried kept p =
-    subst (λ (x : State). IsLine s x last rest found t new last_new) (untried s st now found line o n tried)
-    (subst (λ (l : ℕ). IsLine s now l rest found t new last_new) kept p)
+-- No entry was made.
+pub judged_unmade : (s : Scenario) (trace : List ℕ) (st now : State) (last : ℕ) (rest found behind : List ℕ) (j : Judged) → Sofar s trace st last rest
+    → lines_of rest ≡ found ∷ lines_of behind → now ≡ st → ((l : ℕ) → IsLast s now l rest (Some found) (ended_now s now) j) → IsJudged s trace j
+judged_unmade s trace st now last rest found behind j p cut same over =
+    judged_last s trace st last rest (found ∷ lines_of behind) j p cut
+    (subst (λ (x : State). IsLast s x last rest (Some found) (ended_now s x) j) same (over last))
 
 -- ---- lanes that are tried
 
@@ -418,41 +387,53 @@ goes_on s st l r g room =
     sym (ended_runs s st (runs_reached s st l r g))
     ∙ ap (λ (b : Bool). cond b (Some ended.Budget) None) (apart st.entries (limit s) room)
 
--- A lane that was tried made its entry, and its line was written.
-lane_written : (s : Scenario) (st new : State) (found line : List ℕ) (l n : ℕ) (e : Entry) (a b : List ℕ) → Reached s st → st.entries < limit s
-    → named found ≡ Some l → CanGo s st l → Goes s st l e new a b → n ≡ new.entries → line ≡ entry_line s.version n e → IsWritten s st found l new line
-lane_written s st new found line l n e a b r room names can goes count written =
-    let place : n ≡ st.entries + 1 = count ∙ one_entry s st new l e goes.next in
+-- A lane that was tried made its next entry, or it has none.
+pub lane_next : (s : Scenario) (st new : State) (l : ℕ) (made : Bool) (e : Entry) (a b : List ℕ) → Reached s st → st.entries < limit s → 1 ≤ l → l ≤ lanes s
+    → made ≡ can_step_in s st l → Tried s st l made e new a b → IsNextOf s st l made e new
+lane_next s st new l true e a b r room low high can tried = (goes_on s st l r (low, high, sym can) room, tried.next)
+lane_next s st new l false e a b r room low high can tried = (tried.state, λ goes. none_still s st l low can)
+
+-- The clock, where it goes on and there is room for an entry.
+pub clock_goes_on : (s : Scenario) (st : State) → standing.Ticks ≡ standing_of s st → st.entries < limit s → ended_now s st ≡ None
+clock_goes_on s st ticks room = sym (ended_ticks s st ticks) ∙ ap (λ (b : Bool). cond b (Some ended.Budget) None) (apart st.entries (limit s) room)
+
+-- The lane that a found line names made its entry, and its line was written.
+pub named_written : (r s : Scenario) (st new : State) (found line : List ℕ) (l n : ℕ) (made : Bool) (e : Entry) → r ≡ s → named found ≡ Some l → made ≡ true
+    → IsNextOf r st l made e new → n ≡ new.entries → line ≡ entry_line s.version n e → IsWritten s st found l new line
+named_written r s st new found line l n made e same names is next count written =
+    let both : (ended_now s st ≡ None) × IsNext s st l e new = subst (λ (x : Scenario). IsNextOf x st l true e new) same (subst (λ (b : Bool). IsNextOf r st l b e new) is next) in
+    let place : n ≡ st.entries + 1 = count ∙ one_entry s st new l e both.1 in
     record {
-      goes_on = goes_on s st l r can room;
+      goes_on = both.0;
       names = names;
       entry = e;
-      next = goes.next;
+      next = both.1;
       line_is = written ∙ ap (λ (k : ℕ). entry_line s.version k e) place;
     }
 
-pub lane_tried : (r s : Scenario) (st new : State) (found line : List ℕ) (l n : ℕ) (made : Bool) (e : Entry) (a b : List ℕ) → r ≡ s → Reached s st
-    → st.entries < limit s → named found ≡ Some l → 1 ≤ l → l ≤ lanes r → made ≡ can_step_in r st l → made ≡ true → Tried r st l made e new a b
-    → n ≡ new.entries → line ≡ entry_line s.version n e → IsWritten s st found l new line
-lane_tried r s st new found line l n made e a b same reached room names low high can is tried count written =
-    lane_written s st new found line l n e a b reached room names
-    (low, subst (λ (x : Scenario). l ≤ lanes x) same high, subst (λ (x : Scenario). can_step_in x st l ≡ true) same (sym can ∙ is))
-    (subst (λ (x : Scenario). Goes x st l e new a b) same (lane_goes r st l made e new a b tried is)) count written
+-- ---- lines that name no lane with a next entry
 
--- A lane that can not step has changed nothing.
-pub lane_still : (s : Scenario) (st new : State) (l : ℕ) (made : Bool) (e : Entry) (a b : List ℕ) → made ≡ false → Tried s st l made e new a b → new ≡ st
-lane_still s st new l made e a b is tried = let still : Still st new a b = lane_rests s st l made e new a b tried is in still.state
+one_lane : (a b : ℕ) → Some a ≡ Some b → a ≡ b
+one_lane a b same = cc
 
--- ---- the same, where a runtime's scenario is known by an equation
+not_named : (l : ℕ) → None ≡ Some l → ⊥
+not_named l same = cc
 
-pub below_at : (r s : Scenario) (st : State) → r ≡ s → ended_now s st ≡ None → st.entries ≤ limit s → st.entries < limit r
-below_at r s st e goes few = subst (λ (x : Scenario). st.entries < limit x) (sym e) (below_limit s st goes few)
+-- There is no room for an entry.
+pub names_full : (s : Scenario) (st : State) (found : List ℕ) → limit s ≤ st.entries → st.entries ≤ limit s → NamesNone s st found
+names_full s st found full few = record { none = λ goes l names. absurd (let room = below_limit s st goes few in omega (arith, room, full)) }
 
-pub state_reached : (s : Scenario) (st now : State) → now ≡ st → Reached s st → Reached s now
-state_reached s st now e p = subst (λ (x : State). Reached s x) (sym e) p
+-- The line names this lane alone.
+names_one : (s : Scenario) (st : State) (found : List ℕ) (lane : ℕ) → named found ≡ Some lane → (ended_now s st ≡ None → entry_in s st lane ≡ None) → NamesNone s st found
+names_one s st found lane names none = record { none = λ goes l is. subst (λ (n : ℕ). entry_in s st n ≡ None) (one_lane lane l (sym names ∙ is)) (none goes) }
 
-pub state_few : (s : Scenario) (st now : State) → now ≡ st → st.entries ≤ limit s → now.entries ≤ limit s
-state_few s st now e p = subst (λ (x : State). x.entries ≤ limit s) (sym e) p
+names_by : (s : Scenario) (st : State) (found : List ℕ) (x : Option ℕ) → Reached s st → named found ≡ x → IsNoLane x → NamesNone s st found
+names_by s st found None r e p = record { none = λ goes l is. absurd (not_named l (sym e ∙ is)) }
+names_by s st found (Some lane) r e p = names_one s st found lane e (λ goes. none_above s st lane r (few_lanes s st lane r p))
+
+-- The line names no lane, or none that there is.
+pub names_nobody : (s : Scenario) (st : State) (found : List ℕ) → Reached s st → IsNoLane (named found) → NamesNone s st found
+names_nobody s st found r p = names_by s st found (named found) r refl p
 
 -- ---- what is known where a pattern was not met
 
@@ -460,12 +441,27 @@ pub when_none : (P : Type 0) (Q : ℕ → Type 0) (o : Option ℕ) → ((x : ℕ
 when_none P Q None n p = p
 when_none P Q (Some x) n p = absurd (n x refl)
 
-pub when_not_next : (s : Scenario) (st new : State) (l : ℕ) (o : Option Entry) → ((x : Entry) → o ≡ Some x → ⊥) → IsNextOf s st l o new
-    → entry_in s st l ≡ None
-when_not_next s st new l None n p = p
-when_not_next s st new l (Some e) n p = absurd (n e refl)
+-- A lane was tried, and the answer is that lane.
+pub when_written : (s : Scenario) (st new : State) (found line : List ℕ) (lane : ℕ) (o : Option ℕ) → o ≡ Some lane → IsTried s st found o new line
+    → IsWritten s st found lane new line
+when_written s st new found line lane o is tried = subst (λ (x : Option ℕ). IsTried s st found x new line) is tried
 
-pub when_on : (s : Scenario) (st new : State) (last last_new : ℕ) (rest found : List ℕ) (t : Option Judged) → ((x : Judged) → t ≡ Some x → ⊥)
-    → IsLine s st last rest found t new last_new → (ended_now s st ≡ None) × IsEntry s st last found new last_new
-when_on s st new last last_new rest found None n p = p
-when_on s st new last last_new rest found (Some j) n p = absurd (n j refl)
+-- None made an entry.
+pub when_untried : (s : Scenario) (st now : State) (found line : List ℕ) (o : Option ℕ) → ((x : ℕ) → o ≡ Some x → ⊥) → IsTried s st found o now line
+    → (now ≡ st) × NamesNone s st found
+when_untried s st now found line None n tried = tried
+when_untried s st now found line (Some l) n tried = absurd (n l refl)
+
+-- There is room, where a runtime's scenario is known by an equation.
+pub below_at : (r s : Scenario) (st : State) → r ≡ s → ended_now s st ≡ None → st.entries ≤ limit s → st.entries < limit r
+below_at r s st e goes few = subst (λ (x : Scenario). st.entries < limit x) (sym e) (below_limit s st goes few)
+
+-- What is known of a state is known of one where nothing has changed.
+pub now_reached : (s : Scenario) (st now : State) → now ≡ st → Reached s st → Reached s now
+now_reached s st now e p = subst (λ (x : State). Reached s x) (sym e) p
+
+pub now_few : (s : Scenario) (st now : State) → now ≡ st → st.entries ≤ limit s → now.entries ≤ limit s
+now_few s st now e p = subst (λ (x : State). x.entries ≤ limit s) (sym e) p
+
+pub now_none : (s : Scenario) (st now : State) (found : List ℕ) → now ≡ st → NamesNone s st found → NamesNone s now found
+now_none s st now found e p = subst (λ (x : State). NamesNone s x found) (sym e) p

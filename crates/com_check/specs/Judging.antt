@@ -1,5 +1,5 @@
 -- What is answered for a trace, and when.
-use Rattle.std.specs.Prelude.{◌≡◌, ◌≢◌, ℕ, ◌+◌, ◌<◌, ◌⊎◌, ⊤, true, if◌then◌else◌, List, [], ◌∷◌, ◌++◌, length}
+use Rattle.std.specs.Prelude.{◌≡◌, ◌≢◌, ℕ, ◌+◌, ◌-◌, ◌<◌, ◌⊎◌, ⊤, true, if◌then◌else◌, List, [], ◌∷◌, ◌++◌, length, take}
 use Rattle.std.specs.Prelude.{Option, Some, None, is_some, option_map, option_and_then, codes, decimal}
 use Rattle.com_model.specs.declared.deeds.Entry.{Entry}
 use Rattle.com_model.specs.declared.scenario.Scenario.{Scenario}
@@ -29,6 +29,10 @@ shown (Some line) = line
 -- The line of the entry at a place of a history, without its end.
 unfoldable pub entry_line : ℕ → ℕ → Entry → List ℕ
 entry_line version place e = deed_line version (decimal place ++ codes " L" ++ decimal e.lane) e.deed
+
+-- A line without its end.
+abbrev pub without_end : List ℕ → List ℕ
+without_end line = take (length line - 1) line
 
 -- The lines of a history, which is given with its newest entry first.
 unfoldable pub history_lines : ℕ → List Entry → List (List ℕ)

@@ -1,5 +1,6 @@
 -- What the steps of a judge find, by the tables of a runtime.
-use Rattle.std.specs.Prelude.{◌≡◌, ◌≢◌, ℕ, ◌+◌, List, [], ◌++◌, length, Option, Some, None, option_map}
+use Rattle.std.specs.Prelude.{◌≡◌, ◌≢◌, ℕ, ◌+◌, Bool, true, false, List, [], ◌++◌, length, Option, Some, None}
+use Rattle.std.specs.Prelude.{option_map}
 use Rattle.std.specs.Prelude.{option_and_then}
 use Rattle.com_model.specs.declared.counts.Ended.{Ended}
 use Rattle.com_model.specs.declared.deeds.Entry.{Entry}
@@ -33,10 +34,10 @@ line_in s st last found =
 
 -- ---- entries
 
--- The next entry of a lane was made, or it has none.
-abbrev pub IsNextOf : Scenario → State → (lane : ℕ) → Option Entry → State → Type 0
-IsNextOf s st l None new = entry_in s st l ≡ None
-IsNextOf s st l (Some e) new = IsNext s st l e new
+-- The next entry of a lane was made. Or nothing has changed, and the lane has none, where the history goes on.
+abbrev pub IsNextOf : Scenario → State → (lane : ℕ) → (made : Bool) → Entry → State → Type 0
+IsNextOf s st l true e new = (ended_now s st ≡ None) × IsNext s st l e new
+IsNextOf s st l false e new = (new ≡ st) × (ended_now s st ≡ None → entry_in s st l ≡ None)
 
 -- The entry was made whose turn it is by the schedule without picks.
 pub record IsScheduled (s : Scenario) (st : State) (last : ℕ) (e : Entry) (new : State) : Type 0 where
@@ -61,16 +62,9 @@ pub record IsOther (s : Scenario) (st : State) (last : ℕ) (found : Option (Lis
 
 -- The found line is that of the lane's entry, and the lane is the last one, if it is not the clock's; or else
 -- the line differs.
-abbrev pub IsCompared : (place lane : ℕ) → (found line : List ℕ) → (last : ℕ) → Option Judged
-    → (last_new : ℕ) → Type 0
-IsCompared place lane found line last None last_new = (found ≡ line) × (last_new ≡ last_after lane last)
-IsCompared place lane found line last (Some j) last_new =
-    (found ≢ line) × (j ≡ judged.Differs place found line)
-
-abbrev pub IsTurn : Scenario → State → (last : ℕ) → (found : List ℕ) → Option Judged → State
-    → (last_new : ℕ) → Type 0
-IsTurn s st last found None new last_new = IsEntry s st last found new last_new
-IsTurn s st last found (Some j) new last_new = IsOther s st last (Some found) j
+abbrev pub IsCompared : (lane : ℕ) → (found line : List ℕ) → (last : ℕ) → Bool → (last_new : ℕ) → Type 0
+IsCompared lane found line last true last_new = (found ≡ line) × (last_new ≡ last_after lane last)
+IsCompared lane found line last false last_new = found ≢ line
 
 -- ---- the report
 
@@ -109,9 +103,14 @@ pub record IsWritten (s : Scenario) (st : State) (found : List ℕ) (lane : ℕ)
   pub next : IsNext s st lane entry new
   pub line_is : line ≡ entry_line s.version (st.entries + 1) entry
 
--- A lane was tried: it made its entry, whose line was written, or nothing has changed.
+-- A found line names no lane that has a next entry, where the history goes on.
+pub record NamesNone (s : Scenario) (st : State) (found : List ℕ) : Type 0 where
+  pub none : ended_now s st ≡ None → (lane : ℕ) → named found ≡ Some lane → entry_in s st lane ≡ None
+
+-- The lane that a found line names made its entry, whose line was written. Or nothing has changed, and it names none
+-- that has one.
 abbrev pub IsTried : Scenario → State → (found : List ℕ) → (lane : Option ℕ) → State → (line : List ℕ) → Type 0
-IsTried s st found None new line = new ≡ st
+IsTried s st found None new line = (new ≡ st) × NamesNone s st found
 IsTried s st found (Some lane) new line = IsWritten s st found lane new line
 
 -- What a trace has left was judged beside the report, where the history has ended so, or its first line in the
@@ -120,10 +119,3 @@ abbrev pub IsLast : Scenario → State → (last : ℕ) → (rest : List ℕ) �
     → Option Ended → Judged → Type 0
 IsLast s st last rest found None j = IsOther s st last found j
 IsLast s st last rest found (Some x) j = IsTold s st x rest j
-
--- The first line that a trace has left is that of an entry, which was made, or what is left was judged.
-abbrev pub IsLine : Scenario → State → (last : ℕ) → (rest found : List ℕ) → Option Judged → State
-    → (last_new : ℕ) → Type 0
-IsLine s st last rest found None new last_new =
-    (ended_now s st ≡ None) × IsEntry s st last found new last_new
-IsLine s st last rest found (Some j) new last_new = IsLast s st last rest (Some found) (ended_now s st) j

@@ -1,5 +1,5 @@
 //! Judging a trace line by line, on any runtime that keeps the rules.
-ghost use Rattle.std.specs.Prelude.{◌≡◌, ◌<◌, ◌≤◌, ◌+◌, None, Some, IfOk, OnOk, codes, map};
+ghost use Rattle.std.specs.Prelude.{◌≡◌, ◌<◌, ◌≤◌, ℕ, None, Some, IfOk, OnOk, map};
 ghost use Rattle.com_base.specs.declared.limits.TheConstants.{ENTRY_2_LIMIT};
 ghost use Rattle.com_model.specs.Ends.{last_after, limit};
 ghost use Rattle.com_model.specs.Formed.{Formed};
@@ -7,10 +7,9 @@ ghost use Rattle.com_model.specs.State.{first_tables};
 ghost use Rattle.com_model.specs.Tables.{lanes};
 ghost use Rattle.com_servant.specs.Rows.{row};
 ghost use Rattle.com_runtime.specs.Standings.{ended_now, standing_of, Reached};
-ghost use Rattle.com_check.specs.Judging.{entry_line, IsJudged};
-ghost use Rattle.com_check.specs.Turning.{IsCompared, IsLast, IsLine, IsNextOf, IsOther, IsScheduled};
-ghost use Rattle.com_check.specs.Turning.{IsTold, IsTried, IsTurn};
-ghost use Rattle.com_check.specs.declared.judged.Judged.TheVariants as judged;
+ghost use Rattle.com_check.specs.Judging.{entry_line, without_end, IsJudged};
+ghost use Rattle.com_check.specs.Turning.{IsCompared, IsLast, IsNextOf, IsOther, IsScheduled, IsTold};
+ghost use Rattle.com_check.specs.Turning.{IsTried, NamesNone};
 
 use crate::fronts::lane_of;
 use crate::judged::{Judged, differs};
@@ -18,7 +17,7 @@ use crate::lines::split_line;
 use crate::reports::{NO_LINE, compare};
 use com_base::{ByteList, Memory};
 use com_model::{Ended, Entry, Scenario};
-use com_report::{line, report};
+use com_report::{Line, report};
 use com_runtime::{Runtime, Standing, all_counts, choose, end_of};
 use com_schedule::Tries;
 use com_servant::Servant;
@@ -32,59 +31,52 @@ fn last_after(lane: u32, last: u32) -> u32
     if lane == 0 { last } else { lane }
 }
 
-// Makes the clock's entry, where the clock goes on. The only error is want of memory.
-#[tactic(auto, using(crate::proofs::Entries::no_tick, com_runtime::proofs::Limits::not_finished, com_runtime::proofs::Limits::not_stuck))]
-fn clock_entry<C: Runtime>(runtime: &mut C, standing: Standing) -> Result<Option<Entry>, Memory>
-    requires standing { standing ≡ standing_of (C.scenario runtime.old) (C.state runtime.old) }
-    requires goes_on { ended_now (C.scenario runtime.old) (C.state runtime.old) ≡ None }
-    requires room { (C.state runtime.old).entries < limit (C.scenario runtime.old) }
+// Makes the clock's entry, where the clock goes on. The answer is whether it was made. The only error is want of
+// memory.
+#[inline(never)]
+fn try_clock<C: Tries>(runtime: &mut C) -> Result<bool, Memory>
     requires reached { Reached (C.scenario runtime.old) (C.state runtime.old) }
+    requires room { (C.state runtime.old).entries < limit (C.scenario runtime.old) }
     ensures scenario { C.scenario runtime.new ≡ C.scenario runtime.old }
     ensures made { IfOk result (λ made. IsNextOf (C.scenario runtime.old) (C.state runtime.old) 0 made
-        (C.state runtime.new)) }
+        (C.made runtime.new) (C.state runtime.new)) }
 {
-    match standing {
+    match runtime.standing() {
         Standing::Ticks => {
-            let entry = runtime.tick()?;
-            Ok(Some(entry))
+            runtime.let_tick()?;
+            Ok(true)
         }
-        Standing::Runs => Ok(None),
-        Standing::Finished => unreachable!(),
-        Standing::Stuck => unreachable!(),
+        Standing::Runs => Ok(false),
+        Standing::Finished => Ok(false),
+        Standing::Stuck => Ok(false),
     }
 }
 
-// Makes the next entry of a lane, or of the clock as lane 0, where there is one. The only error is want of
-// memory.
-#[tactic(auto, using(crate::proofs::Entries::none_above, crate::proofs::Entries::none_still))]
-fn next_of<C: Runtime>(
+// Makes the next entry of a lane, or of the clock as lane 0, where it has one. The answer is whether it was made. The
+// only error is want of memory.
+#[inline(always)]
+fn try_next<C: Tries>(
     alloc: Global,
     runtime: &mut C,
-    standing: Standing,
     lane: u32,
     servants: &mut Vec<Box<dyn Servant + Send>>,
-) -> Result<Option<Entry>, Memory>
-    requires standing { standing ≡ standing_of (C.scenario runtime.old) (C.state runtime.old) }
-    requires goes_on { ended_now (C.scenario runtime.old) (C.state runtime.old) ≡ None }
-    requires room { (C.state runtime.old).entries < limit (C.scenario runtime.old) }
+) -> Result<bool, Memory>
     requires reached { Reached (C.scenario runtime.old) (C.state runtime.old) }
+    requires room { (C.state runtime.old).entries < limit (C.scenario runtime.old) }
     requires row { map kind_of servants.old.items ≡ row }
     ensures scenario { C.scenario runtime.new ≡ C.scenario runtime.old }
     ensures row { map kind_of servants.new.items ≡ row }
     ensures made { IfOk result (λ made. IsNextOf (C.scenario runtime.old) (C.state runtime.old) lane made
-        (C.state runtime.new)) }
+        (C.made runtime.new) (C.state runtime.new)) }
 {
-    if lane == 0 {
-        return clock_entry(runtime, standing);
+    if lane < 1 {
+        return try_clock(runtime);
     }
     if runtime.lanes() < lane {
-        return Ok(None);
+        return Ok(false);
     }
-    if !runtime.can_step(lane) {
-        return Ok(None);
-    }
-    let entry = runtime.step(alloc, lane, servants)?;
-    Ok(Some(entry))
+    let made = runtime.try_lane(alloc, lane, servants)?;
+    Ok(made)
 }
 
 // Makes the entry of the schedule without picks: of the first lane that can step from the one behind `last`
@@ -123,16 +115,6 @@ fn step_schedule<C: Runtime>(
     }
 }
 
-// That a found line names no lane that has a next entry, behind so many entries. The only error is want of
-// memory.
-fn no_entry(alloc: Global, entries: u64, found: &[u8]) -> Result<Option<Judged>, Memory>
-    requires { entries ≤ ENTRY_2_LIMIT }
-    ensures { IfOk result (λ turn. turn ≡ Some (judged.Differs (entries + 1) found.now (codes "none"))) }
-{
-    let judged = differs(alloc, entries + 1, found, NO_LINE)?;
-    Ok(Some(judged))
-}
-
 // Judges what a trace has left where the history has ended so: it is to be the report. The only error is
 // want of memory.
 fn judge_report<C: Runtime>(
@@ -155,11 +137,43 @@ fn judge_report<C: Runtime>(
     compare(alloc, entries, text.as_slice(), rest)
 }
 
+// Judges a found line, which is the first of what a trace has left and names no lane that makes an entry: it is in the
+// place of the report, where the history has ended, or there is no legal line. The only error is want of memory.
+#[inline(never)]
+fn judge_unmade<C: Runtime>(
+    alloc: Global,
+    scenario: &Scenario,
+    runtime: &C,
+    rest: &[u8],
+    found: &[u8],
+) -> Result<Judged, Memory>
+    requires scenario { C.scenario runtime.now ≡ scenario.now }
+    requires reached { Reached scenario.now (C.state runtime.now) }
+    requires few { (C.state runtime.now).entries ≤ limit scenario.now }
+    requires none { NamesNone scenario.now (C.state runtime.now) found.now }
+    ensures { IfOk result (λ j. (last : ℕ) → IsLast scenario.now (C.state runtime.now) last rest.now
+        (Some found.now) (ended_now scenario.now (C.state runtime.now)) j) }
+{
+    let standing = runtime.standing();
+    if let Some(ended) = end_of(scenario, runtime, standing) {
+        return judge_report(alloc, scenario, runtime, ended, rest);
+    }
+    differs(alloc, runtime.entries() + 1, found, NO_LINE)
+}
+
+// A line without its end.
+#[inline(always)]
+fn without_end(line: &[u8]) -> &[u8]
+    ensures { result.now ≡ without_end line.now }
+{
+    line.split_at(line.len().saturating_sub(1)).0
+}
+
 // What a judge keeps from line to line: the last lane but the clock's, or 0, and the line of the last entry.
 #[derive(Drop)]
 struct Judge {
     last: u32,
-    line: ByteList,
+    line: Line,
 }
 
 impl Judge {
@@ -169,75 +183,32 @@ impl Judge {
     {
         Judge {
             last: 0,
-            line: ByteList::new(alloc),
+            line: Line::new(alloc),
         }
     }
 
-    // Writes the line of an entry that was just made, without its end. The only error is want of memory.
+    // Writes the line of an entry that was just made. The only error is want of memory.
+    #[inline(always)]
     #[tactic(auto, using(crate::proofs::Judging::without_end))]
-    fn write(&mut self, alloc: Global, version: u8, place: u64, entry: &Entry) -> Result<(), Memory>
+    fn write(&mut self, version: u8, place: u64, entry: &Entry) -> Result<(), Memory>
         ensures last { self.new.last ≡ self.old.last }
-        ensures line { OnOk result (self.new.line ≡ entry_line version place entry.now) }
+        ensures line { OnOk result (without_end self.new.line ≡ entry_line version place entry.now) }
     {
-        self.line.clear();
-        line(alloc, version, place, entry, &mut self.line)?;
-        let count = self.line.len();
-        self.line.truncate(count.saturating_sub(1));
-        Ok(())
+        self.line.write(version, place, entry)
     }
 
-    // What a found line is beside the line that was written for an entry of this lane. The only error is
-    // want of memory.
-    fn compare_line(
-        &mut self,
-        alloc: Global,
-        place: u64,
-        lane: u32,
-        found: &[u8],
-    ) -> Result<Option<Judged>, Memory>
-        ensures { IfOk result
-            (λ turn. IsCompared place lane found.now self.old.line self.old.last turn self.new.last) }
+    // Whether a found line is the line that was written for an entry of this lane, which is then the last one, if it is
+    // not the clock's.
+    #[inline(always)]
+    fn agrees(&mut self, lane: u32, found: &[u8]) -> bool
+        ensures line { self.new.line ≡ self.old.line }
+        ensures agrees { IsCompared lane found.now (without_end self.old.line) self.old.last result self.new.last }
     {
-        if found == self.line.as_slice() {
-            self.last = last_after(lane, self.last);
-            return Ok(None);
+        if found != without_end(self.line.as_slice()) {
+            return false;
         }
-        let judged = differs(alloc, place, found, self.line.as_slice())?;
-        Ok(Some(judged))
-    }
-
-    // Judges a found line in the place of an entry: makes the next entry of the lane that it names. Nothing,
-    // where it is the line of that entry. The only error is want of memory.
-    fn turn<C: Runtime>(
-        &mut self,
-        alloc: Global,
-        version: u8,
-        runtime: &mut C,
-        standing: Standing,
-        found: &[u8],
-        servants: &mut Vec<Box<dyn Servant + Send>>,
-    ) -> Result<Option<Judged>, Memory>
-        requires version { version ≡ (C.scenario runtime.old).version }
-        requires standing { standing ≡ standing_of (C.scenario runtime.old) (C.state runtime.old) }
-        requires goes_on { ended_now (C.scenario runtime.old) (C.state runtime.old) ≡ None }
-        requires room { (C.state runtime.old).entries < limit (C.scenario runtime.old) }
-        requires reached { Reached (C.scenario runtime.old) (C.state runtime.old) }
-        requires row { map kind_of servants.old.items ≡ row }
-        ensures scenario { C.scenario runtime.new ≡ C.scenario runtime.old }
-        ensures row { map kind_of servants.new.items ≡ row }
-        ensures turn { IfOk result (λ turn. IsTurn (C.scenario runtime.old)
-            (C.state runtime.old) self.old.last found.now turn
-            (C.state runtime.new) self.new.last) }
-    {
-        let entries = runtime.entries();
-        let Some(lane) = lane_of(found) else {
-            return no_entry(alloc, entries, found);
-        };
-        let Some(entry) = next_of(alloc, runtime, standing, lane, servants)? else {
-            return no_entry(alloc, entries, found);
-        };
-        self.write(alloc, version, entries + 1, &entry)?;
-        self.compare_line(alloc, entries + 1, lane, found)
+        self.last = last_after(lane, self.last);
+        true
     }
 
     // Judges the end of a trace in the place of an entry: the legal line is that of the schedule's entry.
@@ -262,14 +233,15 @@ impl Judge {
     {
         let place = runtime.entries() + 1;
         let entry = step_schedule(alloc, runtime, standing, self.last, servants)?;
-        self.write(alloc, version, place, &entry)?;
-        differs(alloc, place, NO_LINE, self.line.as_slice())
+        self.write(version, place, &entry)?;
+        differs(alloc, place, NO_LINE, without_end(self.line.as_slice()))
     }
 
-    // Makes the next entry of the lane that a found line names, where there is room for one and the lane can
-    // step, and writes its line. The answer is the lane. Else nothing has changed. The only error is want of
+    // Makes the next entry of the lane that a found line names, or of the clock as lane 0, where there is room for one
+    // and it has one, and writes its line. The answer is the lane. Else nothing has changed. The only error is want of
     // memory.
-    #[tactic(auto, using(com_runtime::proofs::Resting::same_reached, crate::proofs::Judging::lane_still))]
+    #[inline(always)]
+    #[tactic(auto, using(com_runtime::proofs::Resting::same_reached))]
     fn try_named<C: Tries>(
         &mut self,
         alloc: Global,
@@ -280,12 +252,13 @@ impl Judge {
     ) -> Result<Option<u32>, Memory>
         requires scenario { C.scenario runtime.old ≡ scenario.now }
         requires reached { Reached scenario.now (C.state runtime.old) }
+        requires few { (C.state runtime.old).entries ≤ limit scenario.now }
         requires row { map kind_of servants.old.items ≡ row }
         ensures scenario { C.scenario runtime.new ≡ scenario.now }
         ensures row { map kind_of servants.new.items ≡ row }
         ensures last { self.new.last ≡ self.old.last }
         ensures tried { IfOk result (λ lane. IsTried scenario.now (C.state runtime.old) found.now lane
-            (C.state runtime.new) self.new.line) }
+            (C.state runtime.new) (without_end self.new.line)) }
     {
         if runtime.entries() >= u64::from(scenario.limit()) {
             return Ok(None);
@@ -293,80 +266,18 @@ impl Judge {
         let Some(lane) = lane_of(found) else {
             return Ok(None);
         };
-        if lane < 1 {
-            return Ok(None);
-        }
-        if runtime.lanes() < lane {
-            return Ok(None);
-        }
-        let made = runtime.try_lane(alloc, lane, servants)?;
+        let made = try_next(alloc, runtime, lane, servants)?;
         if !made {
             return Ok(None);
         }
         let place = runtime.entries();
-        self.write(alloc, scenario.version, place, runtime.last())?;
+        self.write(scenario.version, place, runtime.last())?;
         Ok(Some(lane))
-    }
-
-    // Judges a found line by how the history stands, where no lane made its entry. The only error is want of
-    // memory.
-    #[tactic(auto, using(com_runtime::proofs::Resting::same_reached, crate::proofs::Judging::below_at))]
-    fn by_standing<C: Runtime>(
-        &mut self,
-        alloc: Global,
-        scenario: &Scenario,
-        runtime: &mut C,
-        rest: &[u8],
-        found: &[u8],
-        servants: &mut Vec<Box<dyn Servant + Send>>,
-    ) -> Result<Option<Judged>, Memory>
-        requires scenario { C.scenario runtime.old ≡ scenario.now }
-        requires reached { Reached scenario.now (C.state runtime.old) }
-        requires few { (C.state runtime.old).entries ≤ limit scenario.now }
-        requires row { map kind_of servants.old.items ≡ row }
-        ensures scenario { C.scenario runtime.new ≡ scenario.now }
-        ensures row { map kind_of servants.new.items ≡ row }
-        ensures line { IfOk result (λ turn. IsLine scenario.now (C.state runtime.old) self.old.last rest.now
-            found.now turn (C.state runtime.new) self.new.last) }
-    {
-        let standing = runtime.standing();
-        if let Some(ended) = end_of(scenario, runtime, standing) {
-            let judged = judge_report(alloc, scenario, runtime, ended, rest)?;
-            return Ok(Some(judged));
-        }
-        self.turn(alloc, scenario.version, runtime, standing, found, servants)
-    }
-
-    // Judges a found line, which is the first of what the trace has left. Nothing, where it is the line of an
-    // entry, which was made. The only error is want of memory.
-    #[tactic(auto, using(crate::proofs::Judging::untried, crate::proofs::Judging::state_reached, crate::proofs::Judging::state_few))]
-    fn judge_line<C: Tries>(
-        &mut self,
-        alloc: Global,
-        scenario: &Scenario,
-        runtime: &mut C,
-        rest: &[u8],
-        found: &[u8],
-        servants: &mut Vec<Box<dyn Servant + Send>>,
-    ) -> Result<Option<Judged>, Memory>
-        requires scenario { C.scenario runtime.old ≡ scenario.now }
-        requires reached { Reached scenario.now (C.state runtime.old) }
-        requires few { (C.state runtime.old).entries ≤ limit scenario.now }
-        requires row { map kind_of servants.old.items ≡ row }
-        ensures scenario { C.scenario runtime.new ≡ scenario.now }
-        ensures row { map kind_of servants.new.items ≡ row }
-        ensures line { IfOk result (λ turn. IsLine scenario.now (C.state runtime.old) self.old.last rest.now
-            found.now turn (C.state runtime.new) self.new.last) }
-    {
-        let Some(lane) = self.try_named(alloc, scenario, runtime, found, servants)? else {
-            return self.by_standing(alloc, scenario, runtime, rest, found, servants);
-        };
-        let place = runtime.entries();
-        self.compare_line(alloc, place, lane, found)
     }
 
     // Judges the end of a trace: it is in the place of the report, or of an entry. The only error is want of
     // memory.
+    #[inline(never)]
     #[tactic(auto, using(com_runtime::proofs::Resting::same_reached, crate::proofs::Judging::below_at))]
     fn judge_end<C: Runtime>(
         &mut self,
@@ -411,8 +322,12 @@ pub fn judge_trace<C: Tries>(
     let mut rest = trace;
     'lines: while !rest.is_empty() {
         let (found, behind) = split_line(rest);
-        if let Some(judged) = judge.judge_line(alloc, scenario, runtime, rest, found, servants)? {
-            return Ok(judged);
+        let Some(lane) = judge.try_named(alloc, scenario, runtime, found, servants)? else {
+            return judge_unmade(alloc, scenario, runtime, rest, found);
+        };
+        if !judge.agrees(lane, found) {
+            let legal = without_end(judge.line.as_slice());
+            return differs(alloc, runtime.entries(), found, legal);
         }
         rest = behind;
     }

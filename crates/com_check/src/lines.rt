@@ -17,6 +17,7 @@ fn line_length(text: &[u8]) -> usize
 }
 
 /// The first line of a text, without its end, and what stands behind that end.
+#[inline(always)]
 pub fn split_line<'a>(text: &'a [u8]) -> (&'a [u8], &'a [u8])
     requires { 0 < length text.now }
     ensures lines { lines_of text.now ≡ result.0.now ∷ lines_of result.1.now }
