@@ -26,13 +26,13 @@ IsReply (Ok r) = Unit {0}
 
 -- What an answer says: what it has, or what is read in its bytes.
 abbrev pub answer_of : Form → Answered
-answer_of (form.Value x) = x
+answer_of (form.Value hr v) = record { hr = hr; value = v }
 answer_of (form.Reply w) = answer_read (reply_in w.kind w.bytes)
 answer_of (form.Reference w r) = answer_read (reply_in w.kind w.bytes)
 
 -- The bytes of an answer can be read, and the reference beside them is the one that is read.
 abbrev pub IsReadable : Form → Type 0
-IsReadable (form.Value x) = Unit {0}
+IsReadable (form.Value hr v) = Unit {0}
 IsReadable (form.Reply w) =
     IsReply (reply_in w.kind w.bytes) × (value_reference (answer_read (reply_in w.kind w.bytes)).value ≡ None)
 IsReadable (form.Reference w r) =

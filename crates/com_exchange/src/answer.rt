@@ -31,11 +31,11 @@ struct Written {
     kind: Option<Kind>,
 }
 
-// How an answer is kept.
+// How an answer is kept. The rows of calls have one each, so nothing in it is wider than it has to be.
 #[derive(Debug, Drop)]
 enum Form {
     /// The HRESULT and the value themselves.
-    Value(Answered),
+    Value(HResult, Option<Value>),
     /// The bytes that say them, and no reference.
     Reply(Written),
     /// The bytes that say them, and the reference that is read in these. It lies beside them, so that asking for it
@@ -119,7 +119,7 @@ impl Answer {
         ensures { result ≡ record { hr = hr; value = value } }
     {
         Answer {
-            form: Form::Value(Answered { hr, value }),
+            form: Form::Value(hr, value),
         }
     }
 
@@ -159,9 +159,9 @@ impl Answer {
         ensures { IfOk result (λ answer. answer ≡ self.now) }
     {
         match &self.form {
-            Form::Value(answer) => Ok(Answered {
-                hr: answer.hr,
-                value: copy_of(&answer.value)?,
+            Form::Value(hr, value) => Ok(Answered {
+                hr: *hr,
+                value: copy_of(value)?,
             }),
             Form::Reply(written) | Form::Reference(written, _) => {
                 answer_in_bytes(alloc, written.kind, written.bytes.as_slice())
@@ -174,7 +174,7 @@ impl Answer {
         ensures { result ≡ value_reference self.now.value }
     {
         match &self.form {
-            Form::Value(answer) => reference_of(answer.value.as_ref()),
+            Form::Value(_, value) => reference_of(value.as_ref()),
             Form::Reply(_) => None,
             Form::Reference(_, held) => Some(*held),
         }
