@@ -129,15 +129,7 @@ pub(crate) fn change_calls(
                 change.clock,
             );
         }
-        Deed::Leave {
-            call,
-            hr,
-            value,
-            bytes,
-        } => {
-            let _said = (hr, value, bytes);
-            calls.leave(*call, take_answer(enclosed))
-        }
+        Deed::Leave { call, .. } => calls.leave(*call, take_answer(enclosed)),
         _ => change_others(
             calls,
             lane,

@@ -12,4 +12,4 @@ returns c = λ o filtered bytes.
     subst (λ (x : Enclosed). c.add.new.self ≡ with_call c.args.calls.now c.args.apartment (calls_after o
     (record { is_outermost = c.args.is_outermost; filtered = filtered; clock = c.args.clock }) (issuing_of (sent_by x))
     c.args.calls.now.tables (out_entry c.args.issue bytes)))
-    (sym c.take_issued.ensures) (c.add.ensures o filtered bytes)
+    (sym c.take_issued-values.ensures) (c.add.ensures o filtered bytes)
