@@ -403,3 +403,15 @@ next-seen rows posted waiting capacity room causes now delayed p =
     (λ c t h e. p.covers c (row-waits now t (row_at rows c) e))
     ∙ ap (λ (xs : List ℕ). least xs) (filter_map-same (λ c. row_wait now (row_at rows c)) (wait_of (kept_of rows posted waiting room causes) now) (one_to (length rows)) (wait-seen now rows posted waiting room causes))
     ∙ ap (λ (n : ℕ). least (filter_map (wait_of (kept_of rows posted waiting room causes) now) (one_to n))) (sym (length-map rows (λ (r : RowView). Some r.issue)))
+
+-- ---- one row
+
+-- A call that is answered waits for no time, and one that is not waits where a Retry delayed it.
+pub answered_waits_not : (p : Phase) (e : Option Ending) → is_some e ≡ true → is_delayed p e ≡ false
+answered_waits_not (Delayed t) None h = absurd cc
+answered_waits_not (Delayed t) (Some x) h = refl
+answered_waits_not _ e h = refl
+
+pub delayed_waits : (t : ℕ) (e : Option Ending) → is_some e ≡ false → is_delayed (Delayed t) e ≡ true
+delayed_waits t None h = refl
+delayed_waits t (Some x) h = absurd cc

@@ -1,5 +1,5 @@
 -- How a row keeps what is seen of it. No public clause cites this module.
-use Rattle.std.specs.Prelude.{ℕ, suc, ◌≡◌, ◌<◌, List, [], length, slice_index_or}
+use Rattle.std.specs.Prelude.{ℕ, suc, ◌≡◌, ◌<◌, false, List, [], length, slice_index_or}
 use Rattle.std.specs.Prelude.{Option, Some, None}
 use Rattle.com_base.specs.declared.value.Value.{Value}
 use Rattle.com_model.specs.declared.keeps.Admission.{Admission}
@@ -7,7 +7,8 @@ use Rattle.com_model.specs.declared.keeps.Leaving.{Leaving}
 use Rattle.com_model.specs.declared.keeps.Ending.{Ending}
 use Rattle.com_model.specs.declared.keeps.Ending.TheVariants.{ByLeave}
 use Rattle.com_calls.specs.declared.rows.Fate.{Fate}
-use Rattle.com_calls.specs.declared.rows.Fate.TheVariants.{Sent, Answered}
+use Rattle.com_calls.specs.declared.rows.Fate.TheVariants.{Sent, Left, Ended}
+use Rattle.com_model.specs.Endings.{is_leave}
 use Rattle.com_calls.specs.declared.rows.Entered.{Entered}
 use Rattle.com_calls.specs.Rows.{RowView}
 
@@ -17,19 +18,20 @@ admission_of c None = None
 admission_of c (Some x) = Some (record { call = c; lane = x.lane; apartment = x.apartment })
 
 -- What the Leave of a call says, where its Leave fixed its answer.
-abbrev pub leaving_by : (call : ℕ) → Ending → Option Leaving
-leaving_by c (ByLeave hr v) = Some (record { call = c; hr = hr; value = v })
-leaving_by c _ = None
-
--- What the Leave of a call says, where its Leave fixed its answer.
 abbrev pub leaving_of : (call : ℕ) → Fate → Option Leaving
-leaving_of c (Answered x) = leaving_by c x
+leaving_of c (Left x) = Some (record { call = c; hr = x.hr; value = x.value })
 leaving_of c _ = None
 
 -- What fixed the answer of a call.
 abbrev pub ending_of : Fate → Option Ending
-ending_of (Answered x) = Some x
+ending_of (Left x) = Some (ByLeave x.hr x.value)
+ending_of (Ended x) = Some x
 ending_of _ = None
+
+-- What is no Leave is told apart from one.
+abbrev pub IsOther : Fate → Type 0
+IsOther (Ended x) = is_leave (Some x) ≡ false
+IsOther _ = Unit {0}
 
 -- What a call sends, until that is let go.
 abbrev pub unread_of : Fate → List Value

@@ -6,4 +6,5 @@ pub mod Inside
 pub mod Steps
 pub mod After
 pub mod Leaves
+pub mod Enclosures
 pub mod Reached

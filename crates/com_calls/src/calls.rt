@@ -17,19 +17,20 @@ ghost use Rattle.com_calls.specs.After.{judged_at, retried_at, asked_at, cut_at,
 ghost use Rattle.com_refs_books.specs.Counting.{count_if};
 ghost use Rattle.com_model.specs.Lists.{first, from_one};
 ghost use Rattle.com_model.specs.Waiting.{post_effect, retries};
+ghost use Rattle.com_model.specs.Frames.{value_reference};
 ghost use Rattle.com_model.specs.Places.{left_value};
 ghost use Rattle.com_calls.specs.Kept.{no_tables, with_tables, with_room, with_call, inbox_at, IsNamed};
 ghost use Rattle.com_calls.specs.Steps.{entered_at, ended_at, left_at, returned_at, phased_at, posted_at};
 ghost use Rattle.com_calls.specs.Steps.{taken_at, grown_at, out_entry, is_known, delay_of};
 
 use crate::postings::Postings;
-use crate::rows::{CallRow, Cut, Issued};
+use crate::rows::{CallRow, Cut, Issued, Left};
 use crate::{cuts, later, rows, waits};
-use com_base::{HOST_STA, HResult, Memory, Rows, Value};
-use com_exchange::Message;
+use com_base::{HOST_STA, HResult, Memory, RefValue, Rows, Value};
+use com_exchange::{Answer, Message};
 use com_filter::{LEAST_DELAY_MS, Verdict};
 use com_inbox::Inbox;
-use com_model::{Admission, Deed, Ending, Issue, Leaving, Phase, Route};
+use com_model::{Admission, Deed, Ending, Issue, Phase, Route};
 use std::alloc::Global;
 use std::marker::Model;
 
@@ -49,7 +50,7 @@ pub struct Calls {
     // out at the next disconnection.
     reachable: Vec<u32>,
     // The Leaves that came after the answers, at the indices of their calls. Few calls have one.
-    later: Vec<Option<Leaving>>,
+    later: Vec<Option<Left>>,
     room: u32,
     causes: u32,
 }
@@ -143,14 +144,14 @@ impl Calls {
         }
     }
 
-    /// The Leave entry of a call.
-    pub fn leave(&mut self, call: u32, hr: HResult, value: Option<Value>)
+    /// The Leave entry of a call, whose body answers so.
+    pub fn leave(&mut self, call: u32, answer: Answer)
         ensures { (o : ObjectTables) (m : Moment) (i : Issuing) (lane : ℕ) (bytes : Option (List ℕ))
             → self.new
             ≡ with_tables self.old (calls_after o m i self.old.tables
-            (record { lane = lane; deed = deed.Leave call hr value bytes })) }
+            (record { lane = lane; deed = deed.Leave call answer.hr answer.value bytes })) }
     {
-        self.leave_row(call, hr, value);
+        self.leave_row(call, answer);
     }
 
     /// Every other entry of a lane. `has_filter` says whether the caller's lane of the call that the entry
@@ -316,15 +317,15 @@ impl Calls {
         }
     }
 
-    /// The value that the body of a call left with. `None` exactly where it did not leave, or left without
-    /// one.
-    pub fn left_value(&self, call: u32) -> Option<&Value>
-        ensures { option_copied result ≡ left_value (from_one self.now.tables.leavings call None) }
+    /// The reference that the body of a call left with. `None` exactly where it did not leave, or left with null or
+    /// no reference. It takes no memory.
+    pub fn left_reference(&self, call: u32) -> Option<RefValue>
+        ensures { result ≡ value_reference (left_value (from_one self.now.tables.leavings call None)) }
     {
         let late = later::leaving(&self.later, call);
         match rows::row_of(&self.rows, call) {
             None => None,
-            Some(row) => row.left_value(late),
+            Some(row) => row.left_reference(late),
         }
     }
 
@@ -338,13 +339,34 @@ impl Calls {
         }
     }
 
-    /// What fixed the answer of a call. `None` exactly where none is fixed.
-    pub fn ending(&self, call: u32) -> Option<&Ending>
-        ensures { option_copied result ≡ from_one self.now.tables.endings call None }
+    /// Reads what fixed the answer of a call, of a reply by reading its bytes. `None` exactly where none is fixed. The
+    /// only error is want of memory.
+    pub fn read_ending(&self, alloc: Global, call: u32) -> Result<Option<Ending>, Memory>
+        ensures { IfOk result (λ ending. ending ≡ from_one self.now.tables.endings call None) }
     {
         match rows::row_of(&self.rows, call) {
-            None => None,
-            Some(row) => row.ending(),
+            None => Ok(None),
+            Some(row) => row.read_ending(alloc),
+        }
+    }
+
+    /// Whether the answer of a call is fixed.
+    pub fn is_answered(&self, call: u32) -> bool
+        ensures { result ≡ is_some (from_one self.now.tables.endings call None) }
+    {
+        match rows::row_of(&self.rows, call) {
+            None => false,
+            Some(row) => row.is_answered(),
+        }
+    }
+
+    /// Whether the Leave of its body fixed the answer of a call.
+    pub fn is_left(&self, call: u32) -> bool
+        ensures { result ≡ is_leave (from_one self.now.tables.endings call None) }
+    {
+        match rows::row_of(&self.rows, call) {
+            None => false,
+            Some(row) => row.is_left(),
         }
     }
 
@@ -422,10 +444,10 @@ impl Calls {
     }
 
     // A body leaves.
-    fn leave_row(&mut self, call: u32, hr: HResult, value: Option<Value>)
-        ensures { self.new ≡ with_tables self.old (left_at self.old.tables call hr value) }
+    fn leave_row(&mut self, call: u32, answer: Answer)
+        ensures { self.new ≡ with_tables self.old (left_at self.old.tables call answer.hr answer.value) }
     {
-        let late = rows::leave(&mut self.rows, call, hr, value);
+        let late = rows::leave(&mut self.rows, call, answer);
         later::keep(&mut self.later, call, late);
         self.waiting.remove(call);
     }

@@ -14,4 +14,4 @@ mod waits;
 pub use calls::Calls;
 pub use com_base::Memory;
 pub use laws::{apartments_stay_named, no_calls_at_first, ticks_are_waits, values_are_taken_first};
-pub use rows::{CallRow, Cut, Issued};
+pub use rows::{CallRow, Cut, Enclosed, Issued, Left};

@@ -7,12 +7,13 @@ ghost use Rattle.com_calls.specs.Rows.{taken, new_row_of, row_at, reaches, late_
 ghost use Rattle.com_calls.specs.Fates.{IsNumbered};
 ghost use Rattle.com_calls.specs.Reached.{is_reachable};
 ghost use Rattle.com_model.specs.Lists.{from_one, or_else};
+ghost use Rattle.com_model.specs.Frames.{value_reference};
 ghost use Rattle.com_model.specs.Places.{left_value};
 ghost use Rattle.std.specs.Option.{option_copied};
 
-use com_base::{HResult, Memory, Rows, Value};
-use com_exchange::Message;
-use com_model::{Admission, Ending, Issue, Leaving, Phase, Route};
+use com_base::{HResult, Memory, RefValue, Rows, Value};
+use com_exchange::{Answer, Message};
+use com_model::{Admission, Ending, Issue, Phase, Route};
 use std::alloc::Global;
 use std::marker::Model;
 use std::mem;
@@ -25,8 +26,26 @@ enum Fate {
     Sent(Message),
     /// No answer is fixed, and what it sent is let go.
     Open,
-    /// This fixed its answer.
-    Answered(Ending),
+    /// The Leave of its body fixed its answer, and this is it.
+    Left(Answer),
+    /// This fixed its answer, and no Leave.
+    Ended(Ending),
+}
+
+// An ending other than by a Leave.
+fn other_ending(ending: &Ending) -> Ending
+    requires { is_leave (Some ending.now) ≡ false }
+    ensures { result ≡ ending.now }
+{
+    match ending {
+        Ending::AtIssue => Ending::AtIssue,
+        Ending::AtAdmission(hr) => Ending::AtAdmission(*hr),
+        Ending::ByVerdict(verdict) => Ending::ByVerdict(*verdict),
+        Ending::ByRetry => Ending::ByRetry,
+        Ending::ByCancel => Ending::ByCancel,
+        Ending::ByDisconnection => Ending::ByDisconnection,
+        Ending::ByLeave(_, _) => unreachable!(),
+    }
 }
 
 // Where a call was entered.
@@ -36,6 +55,26 @@ struct Entered {
     lane: u32,
     /// The apartment in which its body runs.
     apartment: u32,
+}
+
+/// The Leave of a body, seen as what its entry says.
+#[derive(Debug, Drop)]
+pub struct Left {
+    // The number of its call.
+    call: u32,
+    answer: Answer,
+}
+
+impl Model for Left {
+    ghost use Rattle.com_model.specs.declared.keeps.Leaving.{Leaving};
+
+    ghost Value = { Leaving };
+
+    ghost view = { λ s. record {
+      call = s.call;
+      hr = s.answer.hr;
+      value = s.answer.value;
+    } };
 }
 
 /// One call, seen as its row in each of the tables of calls. The rows are kept as long as the core, so the
@@ -62,7 +101,7 @@ pub struct CallRow {
 
 impl Model for CallRow {
     ghost use Rattle.com_calls.specs.Rows.{RowView};
-    ghost use Rattle.com_calls.specs.Fates.{admission_of, leaving_of, ending_of, unread_of};
+    ghost use Rattle.com_calls.specs.Fates.{IsOther, admission_of, leaving_of, ending_of, unread_of};
 
     ghost Value = { RowView };
 
@@ -86,6 +125,8 @@ impl Model for CallRow {
       phase = s.phase;
       time = s.time;
     } };
+
+    ghost invariant = { λ s. IsOther s.fate };
 }
 
 /// What a call has at its Out entry: what it sends, the refusal, or S_OK, and its target's apartment.
@@ -97,6 +138,17 @@ pub struct Issued {
     pub refusal: HResult,
     /// Its target's apartment.
     pub apartment: u32,
+}
+
+/// What an entry brings to the calls beside its deed.
+#[derive(Debug, Drop)]
+pub enum Enclosed {
+    /// Nothing.
+    Nothing,
+    /// What a call has at its Out entry.
+    Issued(Issued),
+    /// What a body answers with at its Leave entry.
+    Answer(Answer),
 }
 
 /// Which calls a disconnection reaches: those to an object, or those to the objects of an STA.
@@ -168,22 +220,23 @@ impl CallRow {
     }
 
     /// Whether its body left, where `late` is the Leave that came after its answer.
-    pub fn has_left(&self, late: Option<&Leaving>) -> bool
+    pub fn has_left(&self, late: Option<&Left>) -> bool
         ensures { result ≡ is_some (or_else (option_copied late.entry) self.now.leaving) }
     {
         match late {
             Some(_) => true,
-            None => matches!(self.fate, Fate::Answered(Ending::ByLeave(..))),
+            None => self.is_left(),
         }
     }
 
-    /// The value that its body left with, where `late` is the Leave that came after its answer.
-    pub fn left_value<'a>(&'a self, late: Option<&'a Leaving>) -> Option<&'a Value>
-        ensures { option_copied result ≡ left_value (or_else (option_copied late.entry) self.now.leaving) }
+    /// The reference that its body left with, where `late` is the Leave that came after its answer.
+    pub fn left_reference(&self, late: Option<&Left>) -> Option<RefValue>
+        ensures { result
+            ≡ value_reference (left_value (or_else (option_copied late.entry) self.now.leaving)) }
     {
         match (late, &self.fate) {
-            (Some(late), _) => late.value.as_ref(),
-            (None, Fate::Answered(Ending::ByLeave(_, value))) => value.as_ref(),
+            (Some(late), _) => late.answer.reference(),
+            (None, Fate::Left(answer)) => answer.reference(),
             _ => None,
         }
     }
@@ -195,13 +248,17 @@ impl CallRow {
         self.has_returned
     }
 
-    /// What has fixed its answer, once something has.
-    pub fn ending(&self) -> Option<&Ending>
-        ensures { option_copied result ≡ self.now.ending }
+    /// Reads what has fixed its answer, once something has. The only error is want of memory.
+    pub fn read_ending(&self, alloc: Global) -> Result<Option<Ending>, Memory>
+        ensures { IfOk result (λ ending. ending ≡ self.now.ending) }
     {
         match &self.fate {
-            Fate::Answered(ending) => Some(ending),
-            _ => None,
+            Fate::Left(answer) => {
+                let said = answer.read(alloc)?;
+                Ok(Some(Ending::ByLeave(said.hr, said.value)))
+            }
+            Fate::Ended(ending) => Ok(Some(other_ending(ending))),
+            _ => Ok(None),
         }
     }
 
@@ -209,7 +266,21 @@ impl CallRow {
     pub fn is_answered(&self) -> bool
         ensures { result ≡ is_some self.now.ending }
     {
-        matches!(self.fate, Fate::Answered(_))
+        match self.fate {
+            Fate::Left(_) | Fate::Ended(_) => true,
+            _ => false,
+        }
+    }
+
+    /// Whether the Leave of its body fixed its answer.
+    pub fn is_left(&self) -> bool
+        ensures ending { result ≡ is_leave self.now.ending }
+        ensures leaving { result ≡ is_some self.now.leaving }
+    {
+        match self.fate {
+            Fate::Left(_) => true,
+            _ => false,
+        }
     }
 
     /// The refusal of a call that was refused at once, else S_OK.
@@ -300,26 +371,25 @@ impl CallRow {
         if self.is_answered() {
             return;
         }
-        self.fate = Fate::Answered(ending);
+        self.fate = Fate::Ended(ending);
     }
 
     // The body leaves. Its Leave comes back where an answer was fixed before.
-    fn leave(&mut self, hr: HResult, value: Option<Value>) -> Option<Leaving>
-        ensures row { self.new ≡ left_with self.old.issue.call hr value self.old }
+    fn leave(&mut self, answer: Answer) -> Option<Left>
+        ensures row { self.new ≡ left_with self.old.issue.call answer.hr answer.value self.old }
         ensures late { result ≡ late_of self.old.ending (record {
           call = self.old.issue.call;
-          hr = hr;
-          value = value;
+          hr = answer.hr;
+          value = answer.value;
         }) }
     {
         if self.is_answered() {
-            return Some(Leaving {
+            return Some(Left {
                 call: self.call,
-                hr,
-                value,
+                answer,
             });
         }
-        self.fate = Fate::Answered(Ending::ByLeave(hr, value));
+        self.fate = Fate::Left(answer);
         None
     }
 
@@ -384,19 +454,19 @@ pub fn end(rows: &mut [CallRow], call: u32, ending: Ending)
 
 /// A body leaves. That is the answer, or its Leave comes back where an answer was fixed before.
 #[tactic(auto, using(crate::proofs::Changed::changed_at, crate::proofs::Changed::changed_past, crate::proofs::Changed::changed_none))]
-pub fn leave(rows: &mut [CallRow], call: u32, hr: HResult, value: Option<Value>) -> Option<Leaving>
+pub fn leave(rows: &mut [CallRow], call: u32, answer: Answer) -> Option<Left>
     requires { IsNumbered rows.old }
-    ensures rows { rows.new ≡ changed_row (left_with call hr value) call rows.old }
+    ensures rows { rows.new ≡ changed_row (left_with call answer.hr answer.value) call rows.old }
     ensures late { result ≡ late_row (row_at rows.old call) (record {
       call = call;
-      hr = hr;
-      value = value;
+      hr = answer.hr;
+      value = answer.value;
     }) }
 {
     if call == 0 || call as usize > rows.len() {
         return None;
     }
-    rows[call as usize - 1].leave(hr, value)
+    rows[call as usize - 1].leave(answer)
 }
 
 /// A call comes back.

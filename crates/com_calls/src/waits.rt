@@ -46,8 +46,8 @@ fn wait_of(rows: &[CallRow], call: u32, now: u64) -> Option<u64>
 fn row_wait(row: &CallRow, now: u64) -> Option<u64>
     ensures { result ≡ wait_until now row.now.phase (is_some row.now.ending) }
 {
-    match (row.phase(), row.ending()) {
-        (Phase::Delayed { until }, None) => { if now < until { Some(until) } else { None } }
+    match (row.phase(), row.is_answered()) {
+        (Phase::Delayed { until }, false) => { if now < until { Some(until) } else { None } }
         _ => None,
     }
 }
@@ -63,10 +63,14 @@ fn is_delayed(rows: &[CallRow], call: u32) -> bool
 }
 
 // Whether a Retry delayed the call and it has no answer yet.
+#[tactic(auto, using(crate::proofs::Delays::answered_waits_not, crate::proofs::Delays::delayed_waits))]
 fn is_row_delayed(row: &CallRow) -> bool
     ensures { result ≡ is_delayed row.now.phase row.now.ending }
 {
-    matches!((row.phase(), row.ending()), (Phase::Delayed { .. }, None))
+    if row.is_answered() {
+        return false;
+    }
+    matches!(row.phase(), Phase::Delayed { .. })
 }
 
 /// Takes out of the list the calls that wait for no time any more, and this call.

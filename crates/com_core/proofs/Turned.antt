@@ -3,6 +3,8 @@ use Rattle.std.proofs.Common.{◌≡◌, ℕ, ◌+◌, ◌<◌, ◌≤◌, ◌^�
 use Rattle.std.specs.Prelude.{Bool, true, false, List, [], Option, Some, None, is_some, length, refl, Result, Ok, Err, OnOk}
 use Rattle.com_body.specs.declared.frame.Outcome.{Outcome}
 use Rattle.com_refs_books.specs.Changes.{Books}
+use Rattle.com_calls.specs.declared.rows.Enclosed.{Enclosed}
+use Rattle.com_calls.specs.declared.rows.Enclosed.TheVariants as enclosed
 use Rattle.com_calls.specs.declared.rows.Issued.{Issued}
 use Rattle.com_calls.specs.Kept.{IsNamed}
 use Rattle.com_model.specs.declared.deeds.Deed.{Deed}
@@ -53,10 +55,11 @@ issuing_by s v l d = record {
 abbrev told : Issued → Issuing
 told i = record { refusal = i.refusal; values = i.values }
 
-sent-turn : (w : Seen) (b : Books) (st : State) (l : ℕ) (d : Deed) (x : Option Issued) → Reads w b st → IsIssued w b l d x
+sent-turn : (w : Seen) (b : Books) (st : State) (l : ℕ) (d : Deed) (x : Enclosed) → Reads w b st → IsIssued w b l d x
     → IsSent w.scenario st (record { lane = l; deed = d }) (sent_by x)
-sent-turn w b st l d None h p = p
-sent-turn w b st l d (Some i) h p =
+sent-turn w b st l d enclosed.Nothing h p = p
+sent-turn w b st l d (enclosed.Answer a) h p = p
+sent-turn w b st l d (enclosed.Issued i) h p =
     ap (λ (v : Sight). issuing_by w.scenario v l d) (sight_read w b st h) ∙ ap (λ (y : Issued). told y) (sym p)
 
 -- A lane has fewer openers than there were entries, and a row of its own.
@@ -97,7 +100,7 @@ pub turn_given : (s : Scenario) (st : State) (p : PartTables) (b : Books) (falle
     → IsReached s st → Stands st p b fallen clock → IsNamed p.objects p.calls → IsTurn (seen_by s p fallen clock) b l o t
     → follows ≡ actor_later (seen_by s p fallen clock) l t.doing.deed
     → filtered ≡ filtered_by (λ c. is_some (filter_seen (seen_by s p fallen clock) (lane_of (issue_at p.calls.tables c)))) t.doing.deed
-    → IsGiven s st (record { lane = l; deed = t.doing.deed }) (acting_of t.acting) o follows filtered (sent_by t.doing.issued)
+    → IsGiven s st (record { lane = l; deed = t.doing.deed }) (acting_of t.acting) o follows filtered (sent_by t.doing.enclosed)
 turn_given s st p b fallen clock l o t follows filtered r h n k f g =
     let w : Seen = seen_by s p fallen clock in
     let reads : Reads w b st = reads_state s st p b fallen clock r h n in
@@ -106,7 +109,7 @@ turn_given s st p b fallen clock l o t follows filtered r h n k f g =
       step = k.outcome ∙ step_stands w b st l t.doing.deed reads;
       next = f ∙ after_stands w b st l t.doing.deed reads;
       filter = g ∙ filtered_stands w b st l t.doing.deed reads;
-      sent = sent-turn w b st l t.doing.deed t.doing.issued reads k.issued;
+      sent = sent-turn w b st l t.doing.deed t.doing.enclosed reads k.issued;
     }
 
 few-enough : (p : PartTables) (st : State) (n : ℕ) → p.entries ≡ st.entries → p.entries < n → st.entries ≤ n
@@ -115,13 +118,13 @@ few-enough p st n e h = omega (arith, e, h)
 -- The parts take a turn's entry.
 pub turn_taken : (s : Scenario) (st : State) (p : PartTables) (b : Books) (fallen : List ℕ) (clock l : ℕ) (o : Option Outcome) (t : Turn) → IsReached s st → Stands st p b fallen clock
     → IsNamed p.objects p.calls → 1 ≤ l → l ≤ lanes s → p.entries < limit s → IsTurn (seen_by s p fallen clock) b l o t
-    → Takes p clock o (sent_by t.doing.issued) (record { lane = l; deed = t.doing.deed })
+    → Takes p clock o (sent_by t.doing.enclosed) (record { lane = l; deed = t.doing.deed })
 turn_taken s st p b fallen clock l o t r h n low high room k =
     let w : Seen = seen_by s p fallen clock in
     let reads : Reads w b st = reads_state s st p b fallen clock r h n in
-    next_taken s st p b fallen clock l t.doing.deed o (sent_by t.doing.issued) r h (few-enough p st (limit s) h.entries room)
+    next_taken s st p b fallen clock l t.doing.deed o (sent_by t.doing.enclosed) r h (few-enough p st (limit s) h.entries room)
     (turn_next s st p b fallen clock l o t r h n low high k)
-    (k.outcome ∙ step_stands w b st l t.doing.deed reads) (sent-turn w b st l t.doing.deed t.doing.issued reads k.issued)
+    (k.outcome ∙ step_stands w b st l t.doing.deed reads) (sent-turn w b st l t.doing.deed t.doing.enclosed reads k.issued)
 
 -- And the clock's, where the clock goes on.
 pub tick_taken : (s : Scenario) (st : State) (p : PartTables) (b : Books) (fallen : List ℕ) (clock t : ℕ) → IsReached s st → Stands st p b fallen clock → p.entries < limit s
@@ -134,7 +137,7 @@ tick_taken s st p b fallen clock t r h room due e =
 -- Where a turn was made and all but the books has changed by it, that was the next entry of the state.
 pub next_made : (s : Scenario) (st : State) (p q : PartTables) (b : Books) (w u : Held) (entered more fallen later : List ℕ) (clock l : ℕ) (o : Option Outcome) (t : Turn)
     → IsTurn (seen_by s p fallen clock) b l o t → IsNamed p.objects p.calls → p.entries ≤ 1_000_000
-    → Changed s p q w u entered more fallen later clock (record { lane = l; deed = t.doing.deed }) (acting_of t.acting) o t.doing.carried (sent_by t.doing.issued)
+    → Changed s p q w u entered more fallen later clock (record { lane = l; deed = t.doing.deed }) (acting_of t.acting) o t.doing.carried (sent_by t.doing.enclosed)
     → IsCore s st p b entered fallen clock → 1 ≤ l → l ≤ lanes s → MakesNext s st p q w u entered more fallen later clock l t.doing.deed
 next_made s st p q b v u entered more fallen later clock l o t k n w m c low high =
     let few_entries : st.entries ≤ 1_000_000 = subst (λ (i : ℕ). i ≤ 1_000_000) c.stands.entries w in
@@ -142,7 +145,7 @@ next_made s st p q b v u entered more fallen later clock l o t k n w m c low hig
     m.acts_after (few_openers s st p b fallen clock l c.reached c.stands few_entries) (lane_there s st p b fallen clock l c.reached c.stands high) in
     let d : Deed = t.doing.deed in
     let next : next_of s st l ≡ Some d = turn_next s st p b fallen clock l o t c.reached c.stands n low high k in
-    let given : IsGiven s st (record { lane = l; deed = d }) (acting_of t.acting) o m.follows m.filtered (sent_by t.doing.issued) =
+    let given : IsGiven s st (record { lane = l; deed = d }) (acting_of t.acting) o m.follows m.filtered (sent_by t.doing.enclosed) =
     turn_given s st p b fallen clock l o t m.follows m.filtered c.reached c.stands n k follows m.filter_is in
     let reads : Reads (seen_by s p fallen clock) b st = reads_state s st p b fallen clock c.reached c.stands n in
     record {
@@ -150,13 +153,13 @@ next_made s st p q b v u entered more fallen later clock l o t k n w m c low hig
       step = o;
       follows = m.follows;
       filtered = m.filtered;
-      sent = sent_by t.doing.issued;
+      sent = sent_by t.doing.enclosed;
       next = next;
       given = given;
       becomes = m.becomes;
       counts = m.counts;
       settles = m.settles;
-      tied = booked_later s st p b fallen clock l d (acting_of t.acting) o m.follows m.filtered (sent_by t.doing.issued) m.home m.running t.doing.carried v u
+      tied = booked_later s st p b fallen clock l d (acting_of t.acting) o m.follows m.filtered (sent_by t.doing.enclosed) m.home m.running t.doing.carried v u
           c.reached c.stands reads next given m.home_is m.running_is
           k.carried m.booked;
     }
@@ -194,7 +197,7 @@ tick_made s st p q b v u entered more fallen later clock t n w e m c g =
 
 pub turn_made : {A E : Type 0} (x : Result A E) (s : Scenario) (v u : Running) (l : ℕ) (o : Option Outcome) (t : Turn) → IsTurn (seen_by s v.parts v.fallen.objects v.clock) (books_held v.ledger) l o t
     → IsNamed v.parts.objects v.parts.calls → v.parts.entries ≤ 1_000_000 → IsWhole (kept_of s v) → 1 ≤ l → l ≤ lanes s
-    → OnOk x (Changed s v.parts u.parts v.ledger u.ledger v.entered.counts u.entered.counts v.fallen.objects u.fallen.objects v.clock (record { lane = l; deed = t.doing.deed }) (acting_of t.acting) o t.doing.carried (sent_by t.doing.issued))
+    → OnOk x (Changed s v.parts u.parts v.ledger u.ledger v.entered.counts u.entered.counts v.fallen.objects u.fallen.objects v.clock (record { lane = l; deed = t.doing.deed }) (acting_of t.acting) o t.doing.carried (sent_by t.doing.enclosed))
     → OnOk x (u.clock ≡ ticked t.doing.deed v.clock) → OnOk x (TurnsTo s l v u (record { lane = l; deed = t.doing.deed }))
 turn_made (Ok y) s v u l o t k n w c low high m tells = record {
   own = refl;

@@ -4,6 +4,7 @@ ghost use Rattle.std.specs.Prelude.{◌≡◌, ℕ, ◌+◌, ◌<◌, ◌≤◌,
 ghost use Rattle.std.specs.Prelude.{is_some, length, map, slice_index_or, vec_capacity};
 ghost use Rattle.com_base.specs.declared.limits.TheConstants.{ENTRY_2_LIMIT};
 ghost use Rattle.com_base.specs.declared.value.RefValue.{RefValue};
+ghost use Rattle.com_calls.specs.Enclosures.{HasAnswer};
 ghost use Rattle.com_calls.specs.Kept.{IsNamed};
 ghost use Rattle.com_core.specs.Changes.{Becomes, Settles, Takes};
 ghost use Rattle.com_core.specs.Making.{Booked, BookedBy, Brings, Changed};
@@ -47,7 +48,7 @@ use crate::running::{Running, forget};
 use crate::still::is_alone;
 use com_base::{Memory, RefValue};
 use com_body::Outcome;
-use com_calls::Issued;
+use com_calls::Enclosed;
 use com_ledger::{Context, DyingScan, count_bodies, other_by, released_by};
 use com_model::{Deed, Entry, Scenario};
 use com_parts::Change;
@@ -260,19 +261,20 @@ impl Running {
         &mut self,
         change: &Change<'_>,
         outcome: &mut Option<Outcome>,
-        issued: &mut Option<Issued>,
+        enclosed: &mut Enclosed,
     )
         requires bodies { All HasSlots self.old.parts.scene.bodies }
         requires deed { FitsDeed change.now.entry.deed.now }
         requires whole { IsWhole outcome.old }
         requires writes { IsWriting outcome.old }
-        requires sent { HasIssued change.now.entry.deed.now (sent_by issued.old) }
+        requires sent { HasIssued change.now.entry.deed.now (sent_by enclosed.old) }
+        requires answer { HasAnswer change.now.entry.deed.now enclosed.old }
         requires begun { IsBegun self.old.parts (acting_of change.now.entry.acting)
             (acting_of change.now.entry.after) change.now.entry.lane change.now.entry.deed.now change.now.clock }
         ensures becomes { Becomes self.old.parts self.new.parts
             (record { lane = change.now.entry.lane; deed = change.now.entry.deed.now })
             (acting_of change.now.entry.acting) outcome.old (acting_of change.now.entry.after)
-            change.now.has_filter (sent_by issued.old) change.now.clock }
+            change.now.has_filter (sent_by enclosed.old) change.now.clock }
         ensures bodies { All HasSlots self.new.parts.scene.bodies }
         ensures entered { self.new.entered ≡ self.old.entered }
         ensures ledger { self.new.ledger ≡ self.old.ledger }
@@ -280,7 +282,7 @@ impl Running {
         ensures fresh { self.new.fresh ≡ self.old.fresh }
         ensures clock { self.new.clock ≡ self.old.clock }
     {
-        self.parts.finish(change, outcome, issued);
+        self.parts.finish(change, outcome, enclosed);
     }
 
     // The running bodies and the dying objects after the entry, whose parts and books are those after it.
@@ -322,17 +324,18 @@ impl Running {
         basis: Basis,
         acting: Actor,
         outcome: &mut Option<Outcome>,
-        issued: &mut Option<Issued>,
+        enclosed: &mut Enclosed,
         entry: &Entry,
     ) -> Result<(), Memory>
         requires still { is_still self.old.parts self.old.ledger outcome.old entry.now.deed ≡ true }
         requires sound { Sound self.old.parts self.old.entered.counts }
         requires room { self.old.parts.entries < ENTRY_2_LIMIT }
-        requires takes { Takes self.old.parts self.old.clock outcome.old (sent_by issued.old) entry.now }
+        requires takes { Takes self.old.parts self.old.clock outcome.old (sent_by enclosed.old) entry.now }
+        requires answer { HasAnswer entry.now.deed enclosed.old }
         requires whole { IsWhole outcome.old }
         ensures becomes { OnOk result (Becomes self.old.parts self.new.parts entry.now
             (acting_of acting) outcome.old
-            (acting_of basis.after) basis.has_filter (sent_by issued.old) self.old.clock) }
+            (acting_of basis.after) basis.has_filter (sent_by enclosed.old) self.old.clock) }
         ensures bodies { OnOk result (All HasSlots self.new.parts.scene.bodies) }
         ensures runs { OnOk result ((n : ℕ) → Most n self.old.entered.counts
             → Most (n + 1) self.new.entered.counts) }
@@ -361,7 +364,7 @@ impl Running {
         };
         self.begin_parts(&change)?;
         self.ledger.pass(&entry.deed)?;
-        self.finish_parts(&change, outcome, issued);
+        self.finish_parts(&change, outcome, enclosed);
         self.clock = clock_after(&entry.deed, self.clock);
         Ok(())
     }
@@ -411,14 +414,15 @@ impl Running {
         seat: Seat,
         acting: Actor,
         outcome: &mut Option<Outcome>,
-        issued: &mut Option<Issued>,
+        enclosed: &mut Enclosed,
         carried: &[RefValue],
         entry: &Entry,
     ) -> Result<(), Memory>
         requires sound { Sound self.old.parts self.old.entered.counts }
         requires few { Few self.old.parts }
         requires room { self.old.parts.entries < ENTRY_2_LIMIT }
-        requires takes { Takes self.old.parts self.old.clock outcome.old (sent_by issued.old) entry.now }
+        requires takes { Takes self.old.parts self.old.clock outcome.old (sent_by enclosed.old) entry.now }
+        requires answer { HasAnswer entry.now.deed enclosed.old }
         requires fits { FitsBooks scenario.now.classes carried.now (number_or_zero seat.running)
             (tally self.old.ledger.tables self.old.ledger.calls) entry.now.deed }
         requires brings { Brings scenario.now self.old.parts self.old.ledger entry.now
@@ -426,7 +430,7 @@ impl Running {
         requires whole { IsWhole outcome.old }
         ensures becomes { OnOk result (Becomes self.old.parts self.new.parts entry.now
             (acting_of acting) outcome.old
-            (acting_of basis.after) basis.has_filter (sent_by issued.old) self.old.clock) }
+            (acting_of basis.after) basis.has_filter (sent_by enclosed.old) self.old.clock) }
         ensures bodies { OnOk result (All HasSlots self.new.parts.scene.bodies) }
         ensures runs { OnOk result ((n : ℕ) → Most n self.old.entered.counts
             → Most (n + 1) self.new.entered.counts) }
@@ -456,7 +460,7 @@ impl Running {
         self.prepare(seat.home, basis.after, acting, outcome, entry)?;
         self.begin_parts(&change)?;
         self.book(scenario, seat, carried, entry)?;
-        self.finish_parts(&change, outcome, issued);
+        self.finish_parts(&change, outcome, enclosed);
         self.settle(&entry.deed, acting);
         self.clock = clock_after(&entry.deed, self.clock);
         Ok(())
@@ -468,7 +472,7 @@ impl Running {
         scenario: &Scenario,
         acting: Actor,
         outcome: &mut Option<Outcome>,
-        issued: &mut Option<Issued>,
+        enclosed: &mut Enclosed,
         carried: &[RefValue],
         entry: &Entry,
     ) -> Result<(), Memory>
@@ -476,7 +480,8 @@ impl Running {
         requires few { Few self.old.parts }
         requires whole { IsWhole outcome.old }
         requires room { self.old.parts.entries < ENTRY_2_LIMIT }
-        requires takes { Takes self.old.parts self.old.clock outcome.old (sent_by issued.old) entry.now }
+        requires takes { Takes self.old.parts self.old.clock outcome.old (sent_by enclosed.old) entry.now }
+        requires answer { HasAnswer entry.now.deed enclosed.old }
         requires fits { FitsBooks scenario.now.classes carried.now (number_or_zero (running_seen
             (seen_by scenario.now self.old.parts self.old.fallen.objects self.old.clock) entry.now.lane))
             (tally self.old.ledger.tables self.old.ledger.calls) entry.now.deed }
@@ -490,7 +495,7 @@ impl Running {
             (Changed scenario.now self.old.parts self.new.parts self.old.ledger self.new.ledger
             self.old.entered.counts self.new.entered.counts self.old.fallen.objects self.new.fallen.objects
             self.old.clock entry.now (acting_of acting)
-            outcome.old carried.now (sent_by issued.old)) }
+            outcome.old carried.now (sent_by enclosed.old)) }
         ensures err { OnErr result (IsAsBefore self.old self.new) }
         ensures step { OnErr result (outcome.new ≡ outcome.old) }
     {
@@ -500,11 +505,11 @@ impl Running {
         }
         let basis = self.basis(scenario, entry);
         if self.is_still(outcome, &entry.deed) {
-            return self.change_still(basis, acting, outcome, issued, entry);
+            return self.change_still(basis, acting, outcome, enclosed, entry);
         }
         let seat = self.seat(scenario, entry.lane);
         self.change(
-            scenario, basis, seat, acting, outcome, issued, carried, entry,
+            scenario, basis, seat, acting, outcome, enclosed, carried, entry,
         )
     }
 
@@ -538,7 +543,7 @@ impl Running {
         let Turn { acting, doing } = made;
         let Doing {
             deed,
-            mut issued,
+            mut enclosed,
             carried,
         } = doing;
         *entry = Entry { lane, deed };
@@ -546,7 +551,7 @@ impl Running {
             scenario,
             acting,
             outcome,
-            &mut issued,
+            &mut enclosed,
             carried.as_slice(),
             entry,
         )
@@ -649,6 +654,13 @@ impl Running {
             deed: Deed::Tick { clock },
         };
         let mut step = None;
-        self.make(scenario, Actor::Nobody, &mut step, &mut None, &[], entry)
+        self.make(
+            scenario,
+            Actor::Nobody,
+            &mut step,
+            &mut Enclosed::Nothing,
+            &[],
+            entry,
+        )
     }
 }

@@ -17,6 +17,7 @@ ghost use Rattle.com_turns.specs.Turns.{IsNext, IsTurn, is_ruled, ruled_turn, tu
 use crate::running::Running;
 use com_base::Memory;
 use com_body::Outcome;
+use com_calls::Enclosed;
 use com_model::{Deed, Entry, Scenario};
 use com_scene::Actor;
 use com_turns::{is_ruled, rule_turn};
@@ -76,7 +77,14 @@ impl Running {
         ensures next { OnOk result (TurnsTo scenario.now entry.now.lane self.old self.new entry.now) }
         ensures err { OnErr result (IsAsBefore self.old self.new) }
     {
-        self.make(scenario, Actor::Nobody, step, &mut None, &[], entry)
+        self.make(
+            scenario,
+            Actor::Nobody,
+            step,
+            &mut Enclosed::Nothing,
+            &[],
+            entry,
+        )
     }
 
     /// Tries a lane in which neither a body nor a script acts: makes its next entry, in the place of the entry

@@ -3,15 +3,10 @@
 ghost use Rattle.std.specs.Prelude.{◌≡◌, None};
 ghost use Rattle.com_core.specs.Quiet.{comes_bare, is_alone, is_slot, is_still, left_held, moves_nothing};
 ghost use Rattle.com_core.specs.Quiet.{writes_by, writes_reference};
-ghost use Rattle.com_model.specs.Frames.{value_reference};
-ghost use Rattle.com_model.specs.Lists.{from_one};
-ghost use Rattle.com_model.specs.Places.{left_value};
 ghost use Rattle.com_state.specs.SceneParts.{destination_at};
 
 use crate::running::Running;
-use com_base::{RefValue, Value};
 use com_body::{Action, Destination, Outcome};
-use com_calls::Calls;
 use com_model::Deed;
 use com_parts::is_calls_alone;
 
@@ -50,16 +45,6 @@ fn is_slot(destination: Destination) -> bool
     }
 }
 
-// The reference in the value that a call's body left with.
-fn left_reference(calls: &Calls, call: u32) -> Option<RefValue>
-    ensures { result ≡ value_reference (left_value (from_one calls.now.tables.leavings call None)) }
-{
-    match calls.left_value(call) {
-        Some(Value::Ref(held)) => *held,
-        _ => None,
-    }
-}
-
 /// Whether an entry changes nothing but the calls, and nobody's step makes it.
 pub fn is_alone(outcome: &Option<Outcome>, deed: &Deed) -> bool
     ensures { result ≡ is_alone outcome.now deed.now }
@@ -82,7 +67,7 @@ impl Running {
     fn left_held(&self, call: u32) -> bool
         ensures { result ≡ left_held self.now.parts call }
     {
-        left_reference(self.parts.calls(), call).is_some()
+        self.parts.calls().left_reference(call).is_some()
     }
 
     // Whether a call comes back without a reference: its result goes to no slot, its body left with no

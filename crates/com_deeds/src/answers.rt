@@ -4,7 +4,7 @@ ghost use Rattle.std.specs.Prelude.{◌≡◌, [], Some, IfNone, IfSome};
 ghost use Rattle.com_filter.specs.Answers.{incoming_answer, retry_answer, pending_answer};
 ghost use Rattle.com_model.specs.Clock.{rules_of, is_handled};
 ghost use Rattle.com_model.specs.Calls.{is_post};
-ghost use Rattle.com_model.specs.Endings.{answer_of, is_leave, verdict_answer};
+ghost use Rattle.com_model.specs.Endings.{answer_of, verdict_answer};
 
 use com_base::HResult;
 use com_filter::{Filter, Verdict};
@@ -94,15 +94,5 @@ pub fn answer_code(ending: &Ending, refusal: HResult) -> HResult
         Ending::ByCancel => HResult::RPC_E_CALL_CANCELED,
         Ending::ByDisconnection => HResult::RPC_E_DISCONNECTED,
         Ending::ByLeave(hr, _) => *hr,
-    }
-}
-
-/// Whether a Leave fixed the answer.
-pub fn is_leave(ending: &Ending) -> bool
-    ensures { result ≡ is_leave (Some ending.now) }
-{
-    match ending {
-        Ending::ByLeave(_, _) => true,
-        _ => false,
     }
 }

@@ -14,7 +14,7 @@ pub use activation::{
     class_number, create_deed, interface_number, number_or_zero, object_in, query_deed,
     shown_interface,
 };
-pub use answers::{answer_code, incoming, is_handled, is_leave, is_post, pending, retry_answer};
+pub use answers::{answer_code, incoming, is_handled, is_post, pending, retry_answer};
 pub use apartments::{filter_deed, in_sta, init_deed, uninit_deed};
 pub use calls::{call_refusal, out, refusal_or_ok, route_to};
 pub use com_base::Memory;

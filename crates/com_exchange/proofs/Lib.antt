@@ -3,4 +3,6 @@ mod Sendings
 mod Previewing
 pub mod Receivings
 pub mod Ranging
+pub mod Rereading
+mod Answering
 pub mod KindLemmas

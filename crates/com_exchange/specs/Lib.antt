@@ -3,3 +3,5 @@ pub mod Sent
 pub mod Previews
 pub mod Received
 pub mod Messages
+pub mod Replies
+pub mod Answers

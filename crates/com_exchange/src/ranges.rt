@@ -4,7 +4,7 @@ ghost use Rattle.std.specs.List.{AllByRecursion};
 ghost use Rattle.com_wire.specs.Fields.{IsGuid};
 ghost use Rattle.objref.specs.Grammar.{IsStdFields};
 ghost use Rattle.ndr_args.specs.Written.{IsInRange};
-ghost use Rattle.com_model.specs.Values.{wires};
+ghost use Rattle.com_model.specs.Values.{result_list, wires};
 ghost use Rattle.com_exchange.specs.Wires.{wire_of};
 
 use crate::writing::{packet_at, packets_of};
@@ -62,3 +62,18 @@ pub(crate) fn are_in_range(values: &[Value], packets: &[StdFields])
         taken += packets_of(value);
     }
 }
+
+// The number of a result, if there is one, and those of its packet.
+pub(crate) fn result_is_in_range(value: Option<&Value>, packets: &[StdFields])
+    ensures { AllByRecursion IsInRange (wires (result_list (option_copied value.entry)) packets.now) }
+{
+    match value {
+        None => {}
+        Some(value) => is_in_range(value, packets.first()),
+    }
+}
+
+// A number of 32 bits.
+pub(crate) fn number_is_in_range(number: u32)
+    ensures { number < 2 ^ 32 }
+{}

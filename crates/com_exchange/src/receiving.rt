@@ -35,7 +35,7 @@ pub enum RequestError {
 const HEADER: usize = 32;
 
 // The reference that the fields of a packet name: the object and the interface of the interface pointer.
-fn reference_in_fields(fields: &StdFields) -> RefValue
+pub(crate) fn reference_in_fields(fields: &StdFields) -> RefValue
     ensures { result ≡ reference_in_fields fields.now }
 {
     RefValue {
@@ -45,7 +45,7 @@ fn reference_in_fields(fields: &StdFields) -> RefValue
 }
 
 // The number of the packet that the fields name.
-fn packet_in_fields(fields: &StdFields) -> u64
+pub(crate) fn packet_in_fields(fields: &StdFields) -> u64
     ensures { result ≡ packet_in_fields fields.now }
 {
     u64::from_le_bytes(fields.ipid.data4)

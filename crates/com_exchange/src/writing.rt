@@ -32,7 +32,7 @@ const OBJREF: u32 = 72;
 const REPLY: usize = 8;
 
 // How many bytes lie between a position and the next multiple of the alignment.
-fn gap(position: usize, align: usize) -> usize
+pub(crate) fn gap(position: usize, align: usize) -> usize
     requires { 0 < align }
     ensures value { result ≡ gap position align }
     ensures below { result < align }

@@ -47,7 +47,8 @@ use Rattle.com_laws_balance.proofs.Says.{Says, next-says}
 use Rattle.com_print_scenario.specs.Ranges.{FitsTypes}
 use Rattle.com_laws_messages.specs.Messages.{replies, message_or, reply, result_of, as_list}
 use Rattle.com_exchange.specs.declared.receiving.RequestError.{RequestError}
-use Rattle.com_laws_messages.specs.Replies.{Reply, kinds_before}
+use Rattle.com_exchange.specs.declared.replies.Reply.{Reply}
+use Rattle.com_exchange.specs.Replies.{kinds_before}
 use Rattle.com_laws_messages.specs.Carried.{SendsReply, ReadsReply, Reads}
 use Rattle.com_laws_messages.proofs.Answering.{DeedCan}
 use Rattle.com_laws_messages.proofs.Carrying.{deed-can}
@@ -58,7 +59,8 @@ use Rattle.com_laws_messages.proofs.Fields.{held-few}
 use Rattle.com_laws_messages.proofs.Fitting.{RefsFit, fields-fit, refs-fit, named-fits}
 use Rattle.com_laws_messages.proofs.Calls.{few-packets, carried-so}
 use Rattle.com_laws_messages.proofs.Leaves.{LeaveGives, leave-gives, unissued-silent}
-use Rattle.com_laws_messages.proofs.Reading.{reply-again, fields-again}
+use Rattle.com_exchange.proofs.Rereading.{reply-again}
+use Rattle.com_laws_messages.proofs.Reading.{fields-again}
 use Rattle.com_laws_messages.proofs.Results.{Replied, new-reply}
 
 -- ---- a call that is back has an answer

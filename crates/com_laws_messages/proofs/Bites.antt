@@ -31,13 +31,14 @@ use Rattle.com_exchange.specs.declared.receiving.RequestError.{RequestError}
 use Rattle.com_exchange.specs.Received.{Sendable, packet_in_fields, request_in}
 use Rattle.com_exchange.proofs.Receivings.{again}
 use Rattle.com_laws_messages.specs.Messages.{reply, parameters_of, result_of}
-use Rattle.com_laws_messages.specs.Replies.{Reply, reply_in}
+use Rattle.com_exchange.specs.declared.replies.Reply.{Reply}
+use Rattle.com_exchange.specs.Replies.{reply_in}
 use Rattle.com_laws_messages.specs.Carried.{SendsRequest, Sends, ReadsRequest, ReadsReply, Reads}
 use Rattle.com_laws_messages.specs.Broken.{pairs, pairs_2, swapped, other_fields, of_another_packet, with_old_value}
 use Rattle.com_laws_messages.proofs.Walking.{small-can}
 use Rattle.com_laws_messages.proofs.Fitting.{ipid-fits}
 use Rattle.com_laws_messages.proofs.Literals.{counter-guid}
-use Rattle.com_laws_messages.proofs.Reading.{reply-again}
+use Rattle.com_exchange.proofs.Rereading.{reply-again}
 
 -- ---- what is read is one thing
 

@@ -37,7 +37,7 @@ use Rattle.com_laws_balance.proofs.Sendings.{end-grown}
 use Rattle.com_exchange.proofs.KindLemmas.{value_kind}
 use Rattle.com_exchange.specs.Received.{reference_in_fields, packet_in_fields}
 use Rattle.com_laws_messages.specs.Messages.{as_list}
-use Rattle.com_laws_messages.specs.Replies.{kinds_before}
+use Rattle.com_exchange.specs.Replies.{kinds_before}
 use Rattle.com_laws_messages.proofs.Fields.{AreNew, FewHeld, as-many-new, fields_from, fields-number}
 use Rattle.com_laws_messages.proofs.Walking.{CanCarry, ResultCan, IsShort}
 use Rattle.com_laws_messages.proofs.Sending.{AllOf, FieldsFit, can-send, in-range, few-wires, carried-few, one-result}

@@ -28,7 +28,7 @@ use Rattle.com_model.specs.Deeds.{named_packet}
 use Rattle.com_model.specs.Rules.{result_gone}
 use Rattle.com_exchange.specs.Received.{Sendable, reference_in_fields, packet_in_fields, request_in}
 use Rattle.com_laws_messages.specs.Messages.{request, reply, parameters_of, result_of, as_list}
-use Rattle.com_laws_messages.specs.Replies.{answer_at_end, kinds_before, result_at, reply_in}
+use Rattle.com_exchange.specs.Replies.{answer_at_end, kinds_before, result_at, reply_in}
 
 -- ---- writing
 

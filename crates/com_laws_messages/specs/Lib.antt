@@ -1,4 +1,3 @@
 pub mod Messages
-pub mod Replies
 pub mod Carried
 pub mod Broken

@@ -1,15 +1,22 @@
 -- An entry that neither issues a call nor leaves a body, and one that does.
-use Rattle.std.proofs.Common.{◌≡◌, ℕ, Bool, true, false, None, is_some, List, refl}
+use Rattle.std.proofs.Common.{◌≡◌, ℕ, true, false, Option, None, is_some, List, refl, subst}
+use Rattle.com_base.specs.declared.hresult.HResult.{HResult}
+use Rattle.com_base.specs.declared.value.Value.{Value}
+use Rattle.com_calls.specs.declared.rows.Enclosed.{Enclosed}
+use Rattle.com_calls.specs.declared.rows.Enclosed.TheVariants as enclosed
+use Rattle.com_calls.specs.Enclosures.{HasAnswer, IsAnswer, IsIssuing}
 use Rattle.com_calls.specs.Steps.{is_known}
+use Rattle.com_exchange.specs.declared.answer.Answered.{Answered}
 use Rattle.com_model.specs.declared.deeds.Deed.{Deed}
 use Rattle.com_model.specs.declared.deeds.Deed.TheVariants as deed
+use Rattle.com_model.specs.declared.deeds.Route.{Route}
 use Rattle.com_model.specs.Calls.{issues, leaves}
 use Rattle.com_model.specs.Frames.{Actor}
 use Rattle.com_model.specs.State.{SceneTables, grown}
 use Rattle.com_model.specs.Waiting.{post_effect}
 use Rattle.com_state.specs.Parts.{CallTables, LaneTables, ObjectTables, lanes_after, objects_after}
 use Rattle.com_state.specs.SceneParts.{rows_after}
-use Rattle.com_parts.specs.Fits.{IsCalled, IsOther, is_calls_alone}
+use Rattle.com_parts.specs.Fits.{HasIssued, IsCalled, IsOther, is_calls_alone, sent_by}
 
 pub no_out : (l : ℕ) (d : Deed) → IsOther d → issues l d ≡ None
 no_out l (deed.Out c o i m r k bytes) h = absurd h
@@ -26,6 +33,23 @@ known t _ h e = e
 pub no_more : (l a : ℕ) (d : Deed) (xs : List ℕ) → IsOther d → grown (is_some (issues l d)) a xs ≡ xs
 no_more l a (deed.Out c o i m r k bytes) xs h = absurd h
 no_more l a _ xs h = refl
+
+-- ---- an Out, and a Leave
+
+pub issued_given : (c : ℕ) (o : Option ℕ) (i m : ℕ) (r : Route) (k : ℕ) (bytes : Option (List ℕ)) (x : Enclosed)
+    → HasIssued (deed.Out c o i m r k bytes) (sent_by x) → IsIssuing x
+issued_given c o i m r k bytes (enclosed.Issued y) h = tt
+issued_given c o i m r k bytes (enclosed.Answer a) h = absurd h
+issued_given c o i m r k bytes enclosed.Nothing h = absurd h
+
+pub answer_given : (c : ℕ) (hr : HResult) (v : Option Value) (bytes : Option (List ℕ)) (x : Enclosed) → HasAnswer (deed.Leave c hr v bytes) x → IsAnswer x
+answer_given c hr v bytes (enclosed.Answer a) h = tt
+answer_given c hr v bytes (enclosed.Issued i) h = absurd h
+answer_given c hr v bytes enclosed.Nothing h = absurd h
+
+pub answer_said : (c : ℕ) (hr : HResult) (v : Option Value) (bytes : Option (List ℕ)) (x : Enclosed) (a : Answered) → HasAnswer (deed.Leave c hr v bytes) x
+    → x ≡ enclosed.Answer a → a ≡ record { hr = hr; value = v }
+answer_said c hr v bytes x a h e = subst (λ (y : Enclosed). HasAnswer (deed.Leave c hr v bytes) y) e h
 
 -- ---- an entry that changes nothing but the calls
 

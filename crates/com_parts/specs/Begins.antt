@@ -7,10 +7,10 @@ use Rattle.com_model.specs.Calls.{issues, object_of}
 use Rattle.com_model.specs.Frames.{Actor as Acting}
 use Rattle.com_objects.specs.Rooms.{HasRowFor}
 use Rattle.com_scene.specs.Kept.{NamesOwners}
-use Rattle.com_scene.specs.Prepared.{IsPrepared, IsTaken}
+use Rattle.com_scene.specs.Prepared.{IsPrepared}
 use Rattle.com_state.specs.Parts.{named_at}
 use Rattle.com_parts.specs.declared.parts.TheConstants.{MOST_ENTRIES}
-use Rattle.com_parts.specs.Fits.{Fits, HasPlace, left_in}
+use Rattle.com_parts.specs.Fits.{Fits, HasPlace}
 use Rattle.com_parts.specs.Tables.{PartTables}
 
 -- The parts take the entry at this clock, all that it brings has room, and what it needs was taken.
@@ -22,5 +22,4 @@ pub record IsBegun (p : PartTables) (acting after : Acting) (l : ℕ) (d : Deed)
   pub objects : HasRowFor p.rooms.objects d
   pub place : HasPlace d (named_at p.objects (object_of (issues l d))) p.calls
   pub scene : IsPrepared acting after d p.rooms.scene p.rooms.taken
-  pub left : IsTaken (left_in d) p.rooms.left
   pub owners : NamesOwners (named_at p.objects) (ends_sta d) p.rooms.owners

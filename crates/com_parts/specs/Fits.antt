@@ -3,7 +3,8 @@ use Rattle.std.specs.Prelude.{◌≡◌, ℕ, ◌+◌, ◌≤◌, ◌<◌, ◌^�
 use Rattle.com_base.specs.declared.hresult.HResult.{HResult}
 use Rattle.com_base.specs.declared.value.Value.{Value}
 use Rattle.com_body.specs.declared.frame.Outcome.{Outcome}
-use Rattle.com_calls.specs.declared.rows.Issued.{Issued}
+use Rattle.com_calls.specs.declared.rows.Enclosed.{Enclosed}
+use Rattle.com_calls.specs.declared.rows.Enclosed.TheVariants as enclosed
 use Rattle.com_calls.specs.Kept.{Kept}
 use Rattle.com_calls.specs.Steps.{is_known, delay_of}
 use Rattle.com_lanes.specs.Changes.{NamesStas}
@@ -78,16 +79,11 @@ pub record Sent : Type 0 where
   pub refusal : HResult
   pub values : List Value
 
-abbrev pub sent_by : Option Issued → Option Sent
-sent_by None = None
-sent_by (Some x) = Some (record { refusal = x.refusal; values = x.values })
+abbrev pub sent_by : Enclosed → Option Sent
+sent_by (enclosed.Issued x) = Some (record { refusal = x.refusal; values = x.values })
+sent_by _ = None
 
 -- An Out comes with what it issues.
 abbrev pub HasIssued : Deed → Option Sent → Type 0
 HasIssued (deed.Out c o i m r k bytes) None = ⊥
 HasIssued _ y = Unit {0}
-
--- The value of a Leave.
-abbrev pub left_in : Deed → Option Value
-left_in (deed.Leave c hr v bytes) = v
-left_in _ = None

@@ -1,6 +1,5 @@
 -- What a contract sees of the parts.
-use Rattle.std.specs.Prelude.{ℕ, List, Option}
-use Rattle.com_base.specs.declared.value.Value.{Value}
+use Rattle.std.specs.Prelude.{ℕ, List}
 use Rattle.com_calls.specs.Kept.{Kept}
 use Rattle.com_lanes.specs.Rooms.{LaneRows}
 use Rattle.com_model.specs.State.{SceneTables}
@@ -10,22 +9,20 @@ use Rattle.com_scene.specs.declared.prepare.Taken.{Taken}
 use Rattle.com_state.specs.Parts.{LaneTables, ObjectTables}
 
 -- What the lanes, the objects and the scene have room for, what the scene has taken, and what the parts have: the
--- value of a Leave, and the apartment of each object.
+-- apartment of each object.
 pub record PartRooms : Type 0 where
   pub lanes : LaneRows
   pub objects : ObjectRows
   pub scene : SceneRoom
   pub taken : Taken
-  pub left : Option Value
   pub owners : List ℕ
 
-abbrev pub rooms_of : LaneRows → ObjectRows → SceneRows → Option Value → List ℕ → PartRooms
-rooms_of lanes objects scene left owners = record {
+abbrev pub rooms_of : LaneRows → ObjectRows → SceneRows → List ℕ → PartRooms
+rooms_of lanes objects scene owners = record {
   lanes = lanes;
   objects = objects;
   scene = scene.room;
   taken = scene.taken;
-  left = left;
   owners = owners;
 }
 

@@ -1,5 +1,6 @@
 //! What an entry makes of the parts.
 ghost use Rattle.std.specs.Prelude.{◌≡◌, ◌+◌, ◌<◌, ◌^◌, length, OnOk, true};
+ghost use Rattle.com_calls.specs.Enclosures.{HasAnswer};
 ghost use Rattle.com_calls.specs.Kept.{with_room};
 ghost use Rattle.com_lanes.specs.Changes.{NamesStas, HasRoom};
 ghost use Rattle.com_lanes.specs.Rooms.{HasSpace};
@@ -15,12 +16,12 @@ ghost use Rattle.com_parts.specs.Changes.{FitsFrame, IsSame, issuing_of, moment_
 ghost use Rattle.com_parts.specs.Fits.{Fits, HasIssued, HasPlace, IsWriting, is_calls_alone, sent_by};
 
 use crate::change::Change;
-use crate::issue::{change_calls, change_others, make_room, take_left, target_of};
+use crate::issue::{change_calls, change_others, make_room, target_of};
 use crate::owners::keep_owners;
 use crate::parts::{MOST_ENTRIES, Parts};
 use com_base::Memory;
 use com_body::Outcome;
-use com_calls::{Calls, Issued};
+use com_calls::{Calls, Enclosed};
 use com_lanes::Lanes;
 use com_model::Deed;
 use com_objects::Objects;
@@ -100,7 +101,6 @@ impl Parts {
             after,
         } = change.entry;
         keep_owners(&self.objects, deed, &mut self.owners)?;
-        take_left(deed, &mut self.left)?;
         reserve(
             &mut self.lanes,
             &mut self.objects,
@@ -112,17 +112,18 @@ impl Parts {
     }
 
     /// Finishes a change that was begun: the lanes, the objects, the calls and the scene after the entry. It
-    /// takes no memory, and cannot fail. `outcome` has the step of whoever makes the entry by one, and `issued`
-    /// what the call has that the entry issues, where it is an Out; what is left of both has no use any more.
+    /// takes no memory, and cannot fail. `outcome` has the step of whoever makes the entry by one, and `enclosed`
+    /// what an Out issues, or what a Leave answers with; what is left of both has no use any more.
     pub fn finish(
         &mut self,
         change: &Change<'_>,
         outcome: &mut Option<Outcome>,
-        issued: &mut Option<Issued>,
+        enclosed: &mut Enclosed,
     )
         requires frame { FitsFrame (acting_of change.now.entry.acting) outcome.old }
         requires writes { IsWriting outcome.old }
-        requires issued { HasIssued change.now.entry.deed.now (sent_by issued.old) }
+        requires issued { HasIssued change.now.entry.deed.now (sent_by enclosed.old) }
+        requires answer { HasAnswer change.now.entry.deed.now enclosed.old }
         requires begun { IsBegun self.old (acting_of change.now.entry.acting) (acting_of change.now.entry.after)
             change.now.entry.lane change.now.entry.deed.now change.now.clock }
         ensures lanes { self.new.lanes ≡ lanes_after self.old.lanes
@@ -131,7 +132,7 @@ impl Parts {
             (record { lane = change.now.entry.lane; deed = change.now.entry.deed.now }) }
         ensures calls { self.new.calls.tables ≡ calls_after self.old.objects
             (moment_at self.old.lanes change.now.entry.lane change.now.has_filter change.now.clock)
-            (issuing_of (sent_by issued.old)) self.old.calls.tables
+            (issuing_of (sent_by enclosed.old)) self.old.calls.tables
             (record { lane = change.now.entry.lane; deed = change.now.entry.deed.now }) }
         ensures scene { self.new.scene ≡ rows_after (named_at self.old.objects)
             (acting_of change.now.entry.acting) outcome.old (acting_of change.now.entry.after)
@@ -143,8 +144,7 @@ impl Parts {
             &self.lanes,
             &self.objects,
             change,
-            issued,
-            &mut self.left,
+            enclosed,
         );
         self.scene
             .apply(&change.entry, outcome, self.owners.as_slice());

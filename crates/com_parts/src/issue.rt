@@ -1,22 +1,25 @@
 //! What the calls make of an entry.
-ghost use Rattle.std.specs.Prelude.{◌≡◌, ◌+◌, ◌<◌, ◌^◌, ℕ, Bool, List, Option, IsSome, is_some, is_none};
+ghost use Rattle.std.specs.Prelude.{◌≡◌, ◌+◌, ◌<◌, ◌^◌, ℕ, Bool, List, Option, is_some, is_none};
 ghost use Rattle.std.specs.Prelude.{OnOk, length};
+ghost use Rattle.com_calls.specs.declared.rows.Enclosed.TheVariants as enclosing;
+ghost use Rattle.com_calls.specs.Enclosures.{HasAnswer, IsAnswer, IsIssuing};
 ghost use Rattle.com_calls.specs.Kept.{IsNamed, with_call, with_room, with_tables};
 ghost use Rattle.com_calls.specs.Steps.{delay_of, out_entry};
 ghost use Rattle.com_model.specs.Calls.{issues, object_of};
 ghost use Rattle.com_model.specs.Openers.{running_call};
 ghost use Rattle.com_model.specs.State.{grown};
 ghost use Rattle.com_state.specs.Parts.{Issuing, ObjectTables, calls_after, named_at, openers_at};
-ghost use Rattle.com_scene.specs.Prepared.{IsTaken};
 ghost use Rattle.com_parts.specs.Changes.{issuing_of, moment_at};
-ghost use Rattle.com_parts.specs.Fits.{HasIssued, HasPlace, IsCalled, IsOther, is_calls_alone, left_in, sent_by};
+ghost use Rattle.com_parts.specs.Fits.{HasIssued, HasPlace, IsCalled, IsOther, is_calls_alone, sent_by};
 
 use crate::change::Change;
-use com_base::{Memory, Value};
-use com_calls::{Calls, Issued};
+use com_base::Memory;
+use com_calls::{Calls, Enclosed, Issued};
+use com_exchange::Answer;
 use com_lanes::Lanes;
 use com_model::{Deed, Issue};
 use com_objects::Objects;
+use std::mem;
 
 // The apartment of the target of the call that an entry issues, and 0 where it issues none.
 pub(crate) fn target_of(objects: &Objects, deed: &Deed) -> u32
@@ -42,30 +45,27 @@ pub(crate) fn make_room(calls: &mut Calls, deed: &Deed, apartment: u32) -> Resul
     }
 }
 
-// Takes a copy of the value of a Leave. The only error is want of memory.
-pub(crate) fn take_left(deed: &Deed, left: &mut Option<Value>) -> Result<(), Memory>
-    ensures { OnOk result (IsTaken (left_in deed.now) left.new) }
+// The answer that goes with a Leave.
+fn take_answer(enclosed: &mut Enclosed) -> Answer
+    requires { IsAnswer enclosed.old }
+    ensures { enclosed.old ≡ enclosing.Answer result }
 {
-    match deed {
-        Deed::Leave {
-            value: Some(value),
-            ..
-        } => {
-            *left = Some(value.copy()?);
-            Ok(())
-        }
-        _ => Ok(()),
+    match mem::replace(enclosed, Enclosed::Nothing) {
+        Enclosed::Answer(answer) => answer,
+        Enclosed::Nothing => unreachable!(),
+        Enclosed::Issued(_) => unreachable!(),
     }
 }
 
-// The copy that was taken of a value, where there is one.
-fn own(value: &Option<Value>, taken: &mut Option<Value>) -> Option<Value>
-    requires { IsTaken value.now taken.old }
-    ensures { result ≡ value.now }
+// What goes with an Out.
+fn take_issued(enclosed: &mut Enclosed) -> Issued
+    requires { IsIssuing enclosed.old }
+    ensures { enclosed.old ≡ enclosing.Issued result }
 {
-    match value {
-        Some(_) => taken.take(),
-        None => None,
+    match mem::replace(enclosed, Enclosed::Nothing) {
+        Enclosed::Issued(issued) => issued,
+        Enclosed::Nothing => unreachable!(),
+        Enclosed::Answer(_) => unreachable!(),
     }
 }
 
@@ -82,18 +82,17 @@ pub(crate) fn change_calls(
     lanes: &Lanes,
     objects: &Objects,
     change: &Change<'_>,
-    issued: &mut Option<Issued>,
-    left: &mut Option<Value>,
+    enclosed: &mut Enclosed,
 )
     requires place { HasPlace change.now.entry.deed.now (named_at objects.now.tables
         (object_of (issues change.now.entry.lane change.now.entry.deed.now))) calls.old }
-    requires has { HasIssued change.now.entry.deed.now (sent_by issued.old) }
-    requires value { IsTaken (left_in change.now.entry.deed.now) left.old }
+    requires has { HasIssued change.now.entry.deed.now (sent_by enclosed.old) }
+    requires answer { HasAnswer change.now.entry.deed.now enclosed.old }
     requires called { IsCalled calls.old.tables change.now.entry.deed.now }
     requires time { change.now.clock + delay_of change.now.entry.deed.now < 2 ^ 64 }
     ensures tables { IsNamed objects.now.tables calls.old → calls.new.tables ≡ calls_after objects.now.tables
         (moment_at lanes.now.tables change.now.entry.lane change.now.has_filter change.now.clock)
-        (issuing_of (sent_by issued.old)) calls.old.tables
+        (issuing_of (sent_by enclosed.old)) calls.old.tables
         (record { lane = change.now.entry.lane; deed = change.now.entry.deed.now }) }
     ensures apartments { IsNamed objects.now.tables calls.old → calls.new.apartments
         ≡ grown (is_some (issues change.now.entry.lane change.now.entry.deed.now)) (named_at objects.now.tables
@@ -124,18 +123,13 @@ pub(crate) fn change_calls(
             add(
                 calls,
                 issue,
-                issued,
+                enclosed,
                 apartment,
                 is_outermost(lanes, lane),
                 change.clock,
             );
         }
-        Deed::Leave {
-            call,
-            hr,
-            value,
-            ..
-        } => calls.leave(*call, *hr, own(value, left)),
+        Deed::Leave { call, .. } => calls.leave(*call, take_answer(enclosed)),
         _ => change_others(
             calls,
             lane,
@@ -181,7 +175,7 @@ pub(crate) fn change_others(calls: &mut Calls, lane: u32, deed: &Deed, has_filte
 fn add(
     calls: &mut Calls,
     issue: Issue,
-    issued: &mut Option<Issued>,
+    enclosed: &mut Enclosed,
     apartment: u32,
     is_outermost: bool,
     clock: u64,
@@ -189,20 +183,17 @@ fn add(
     requires number { issue.call ≡ length calls.old.tables.issues + 1 }
     requires room { length calls.old.tables.issues < calls.old.room }
     requires inbox { apartment < calls.old.inboxes }
-    requires has { IsSome issued.old }
+    requires has { IsIssuing enclosed.old }
     ensures { (o : ObjectTables) (filtered : Bool) (bytes : Option (List ℕ)) → calls.new
         ≡ with_call calls.old apartment (calls_after o
         (record { is_outermost = is_outermost; filtered = filtered; clock = clock })
-        (issuing_of (sent_by issued.old)) calls.old.tables (out_entry issue bytes)) }
+        (issuing_of (sent_by enclosed.old)) calls.old.tables (out_entry issue bytes)) }
 {
-    let Some(sent) = issued.take() else {
-        return;
-    };
     let Issued {
         refusal,
         values,
         ..
-    } = sent;
+    } = take_issued(enclosed);
     let issued = Issued {
         refusal,
         values,

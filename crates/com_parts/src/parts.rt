@@ -5,7 +5,7 @@ ghost use Rattle.com_lanes.specs.First.{first_lanes};
 ghost use Rattle.com_model.specs.Tables.{lanes as all_lanes, threads};
 ghost use Rattle.com_scene.specs.Scenes.{new_scene};
 
-use com_base::{Memory, Value};
+use com_base::Memory;
 use com_calls::Calls;
 use com_lanes::Lanes;
 use com_model::Scenario;
@@ -26,10 +26,9 @@ pub struct Parts {
     pub(crate) calls: Calls,
     pub(crate) scene: Scene,
     pub(crate) entries: u32,
-    // What was taken for the entry that comes. Each stays where it is until an entry takes anew, and an entry uses
-    // only what it has taken itself: a copy of the value of a Leave, and the apartment of each object, from 0,
-    // where the entry ends a single-threaded apartment.
-    pub(crate) left: Option<Value>,
+    // What was taken for the entry that comes. It stays where it is until an entry takes anew, and an entry uses only
+    // what it has taken itself: the apartment of each object, from 0, where the entry ends a single-threaded
+    // apartment.
     pub(crate) owners: Vec<u32>,
 }
 
@@ -45,7 +44,7 @@ impl Model for Parts {
       calls = p.calls;
       scene = p.scene.tables;
       entries = p.entries;
-      rooms = rooms_of p.lanes p.objects p.scene p.left p.owners.items;
+      rooms = rooms_of p.lanes p.objects p.scene p.owners.items;
     } };
 
     ghost invariant = { λ p. IsWhole p.lanes.tables p.objects.tables p.calls p.entries };
@@ -70,7 +69,6 @@ impl Parts {
             calls: Calls::new(alloc)?,
             scene: Scene::new(alloc, threads)?,
             entries: 0,
-            left: None,
             owners: Vec::new(alloc),
         })
     }

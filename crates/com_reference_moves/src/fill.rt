@@ -76,16 +76,6 @@ fn reference_in(value: &Option<Value>) -> Option<RefValue>
     }
 }
 
-// The reference in the value that a call's body left with.
-fn left_reference(calls: &Calls, call: u32) -> Option<RefValue>
-    ensures { result ≡ value_reference (left_value (from_one calls.now.tables.leavings call None)) }
-{
-    match calls.left_value(call) {
-        Some(Value::Ref(held)) => *held,
-        _ => None,
-    }
-}
-
 // The STA that a last Uninit ends.
 fn ended_sta(deed: &Deed) -> Option<u32>
     ensures { result ≡ ends_sta deed.now }
@@ -192,7 +182,7 @@ impl Moves {
         if !keeps_result(calls, call) {
             return Ok(());
         }
-        self.lose(entered_where(calls, call), left_reference(calls, call))
+        self.lose(entered_where(calls, call), calls.left_reference(call))
     }
 
     // A body leaves: all its slots, and its result.

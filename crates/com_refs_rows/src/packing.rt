@@ -15,7 +15,6 @@ use crate::calls::{CallPackets, CallTable};
 use crate::rows::{marshal, unmarshal};
 use com_base::{MarshalMode, Memory, RefValue};
 use com_calls::Calls;
-use com_deeds::is_leave;
 use com_reference_moves::Move;
 use com_refs::{MOST_ISSUED, Refs};
 
@@ -138,8 +137,5 @@ pub fn read_all(refs: &mut Refs, brought: &mut Vec<Move>, apartment: u32, packet
 pub fn is_left(calls: &Calls, call: u32) -> bool
     ensures { result ≡ is_leave (from_one calls.now.tables.endings call None) }
 {
-    match calls.ending(call) {
-        Some(ending) => is_leave(ending),
-        None => false,
-    }
+    calls.is_left(call)
 }

@@ -55,7 +55,7 @@ sent_travel b live (k ∷ ks) (v ∷ vs) p =
     (value_kind b live k v, value_travels b live k v (all_head v vs p), sent_travel b live ks vs (all_tail v vs p))
 
 -- one value more
-one_connected : (live : ℕ → Bool) (v : Value) (vs : List Value) → AllConnected live (carried vs) → AllConnected live (carried (if_live true live v ∷ vs))
+pub one_connected : (live : ℕ → Bool) (v : Value) (vs : List Value) → AllConnected live (carried vs) → AllConnected live (carried (if_live true live v ∷ vs))
 one_connected live (value.Ref (Some r)) vs p = by_test (live r.object) refl
   where
     by_test : (t : Bool) → live r.object ≡ t → AllConnected live (carried (value.Ref (cond t (Some r) None) ∷ vs))

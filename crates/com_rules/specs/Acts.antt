@@ -4,6 +4,8 @@ use Rattle.std.specs.Prelude.{◌≡◌, ℕ, true, List, [], Option, Some, None
 use Rattle.com_base.specs.declared.value.RefValue.{RefValue}
 use Rattle.com_body.specs.declared.actions.Action.{Action}
 use Rattle.com_refs_books.specs.Changes.{Books}
+use Rattle.com_calls.specs.declared.rows.Enclosed.{Enclosed}
+use Rattle.com_calls.specs.declared.rows.Enclosed.TheVariants as enclosed
 use Rattle.com_calls.specs.declared.rows.Issued.{Issued}
 use Rattle.com_model.specs.declared.deeds.Deed.{Deed}
 use Rattle.com_model.specs.declared.deeds.Deed.TheVariants as deed
@@ -31,9 +33,10 @@ issued_by s v l x d = record {
 }
 
 -- Of an entry that issues no call there is nothing.
-abbrev pub Issues : Scenario → Sight → ℕ → Action → Deed → Option Issued → Type 0
-Issues s v l x d None = issues l d ≡ None
-Issues s v l x d (Some i) = i ≡ issued_by s v l x d
+abbrev pub Issues : Scenario → Sight → ℕ → Action → Deed → Enclosed → Type 0
+Issues s v l x d enclosed.Nothing = issues l d ≡ None
+Issues s v l x d (enclosed.Issued i) = i ≡ issued_by s v l x d
+Issues s v l x d (enclosed.Answer a) = issues l d ≡ None
 
 -- The references that a marshalled request or reply carries, one packet each, in their order.
 abbrev pub carried_by : Scenario → Books → Action → Deed → List RefValue

@@ -1,6 +1,7 @@
 //! The entry of an action, and what goes with it.
 
 ghost use Rattle.std.specs.Prelude.{◌≡◌, IfOk};
+ghost use Rattle.com_calls.specs.Enclosures.{HasAnswer};
 ghost use Rattle.com_model.specs.Deeds.{deed_of};
 ghost use Rattle.com_rules.specs.Acts.{Issues, carried_by};
 ghost use Rattle.com_rules.specs.Fits.{FitsAction, IsSilent};
@@ -14,7 +15,7 @@ use crate::naming::{drop_packet, unmarshal_packet};
 use crate::sending::{Callee, call, leave};
 use com_base::{Memory, RefValue, Rows};
 use com_body::Action;
-use com_calls::Issued;
+use com_calls::Enclosed;
 use com_model::Deed;
 use com_view::View;
 use std::alloc::Global;
@@ -24,8 +25,9 @@ use std::alloc::Global;
 pub struct Doing {
     /// The entry's deed.
     pub deed: Deed,
-    /// What the call has that the entry issues. Of every other entry there is nothing.
-    pub issued: Option<Issued>,
+    /// What the calls are given with it: what an Out issues, or what a Leave answers with. With every other entry
+    /// there is nothing.
+    pub enclosed: Enclosed,
     /// The references that a marshalled request or reply carries, one packet each, in their order.
     pub carried: Rows<RefValue>,
 }
@@ -74,14 +76,15 @@ fn silent_doing<B: Found>(
     ensures deed { IfOk result (λ made. made.deed
         ≡ deed_of view.now.scenario (sight_by view.now (B.books books.now)) lane action.now) }
     ensures issued { IfOk result (λ made. Issues view.now.scenario (sight_by view.now
-        (B.books books.now)) lane action.now made.deed made.issued) }
+        (B.books books.now)) lane action.now made.deed made.enclosed) }
+    ensures answer { IfOk result (λ made. HasAnswer made.deed made.enclosed) }
     ensures carried { IfOk result (λ made. made.carried
         ≡ carried_by view.now.scenario (B.books books.now) action.now made.deed) }
 {
     let deed = silent_deed(view, books, alloc, lane, action)?;
     Ok(Doing {
         deed,
-        issued: None,
+        enclosed: Enclosed::Nothing,
         carried: Rows::new(alloc),
     })
 }
@@ -99,7 +102,8 @@ pub fn act<B: Found>(
     ensures deed { IfOk result (λ made. made.deed
         ≡ deed_of view.now.scenario (sight_by view.now (B.books books.now)) lane action.now) }
     ensures issued { IfOk result (λ made. Issues view.now.scenario (sight_by view.now
-        (B.books books.now)) lane action.now made.deed made.issued) }
+        (B.books books.now)) lane action.now made.deed made.enclosed) }
+    ensures answer { IfOk result (λ made. HasAnswer made.deed made.enclosed) }
     ensures carried { IfOk result (λ made. made.carried
         ≡ carried_by view.now.scenario (B.books books.now) action.now made.deed) }
 {

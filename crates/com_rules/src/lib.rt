@@ -15,5 +15,5 @@ pub use actions::{Doing, act};
 pub use asking::Found;
 pub use chain::{rule_deed, script_over};
 pub use com_base::Memory;
-pub use com_calls::Issued;
+pub use com_calls::Enclosed;
 pub use com_view::References;

@@ -1,6 +1,6 @@
 //! The entries that send values: the Out of a call, and the Leave of a body.
 
-ghost use Rattle.std.specs.Prelude.{◌≡◌, ◌≤◌, true, [], All, Option, Some, IfOk, length, option_copied};
+ghost use Rattle.std.specs.Prelude.{◌≡◌, ◌≤◌, ℕ, true, [], All, Option, Some, IfOk, length, option_copied};
 ghost use Rattle.std.specs.Prelude.{if◌then◌else◌};
 ghost use Rattle.com_base.specs.declared.limits.TheConstants.{PARAMETER_LIMIT};
 ghost use Rattle.com_body.specs.declared.actions.Action.{Action};
@@ -8,9 +8,13 @@ ghost use Rattle.com_body.specs.declared.actions.Action.TheVariants as action;
 ghost use Rattle.com_body.specs.declared.operands.Destination.{Destination};
 ghost use Rattle.com_refs_books.specs.Changes.{Books};
 ghost use Rattle.com_classes.specs.Lookups.{method_at};
+ghost use Rattle.com_calls.specs.Enclosures.{HasAnswer};
+ghost use Rattle.com_exchange.specs.Answers.{TravelsAs};
 ghost use Rattle.com_exchange.specs.Messages.{CanTravel, TravelAs};
 ghost use Rattle.com_exchange.specs.Sent.{ResultCanTravel};
 ghost use Rattle.com_model.specs.declared.deeds.Deed.TheVariants as deed;
+ghost use Rattle.com_model.specs.declared.scenario.Scenario.{Scenario};
+ghost use Rattle.com_model.specs.Sight.{Sight};
 ghost use Rattle.com_model.specs.Calls.{is_marshalled};
 ghost use Rattle.com_model.specs.Deeds.{deed_of, left_as, out_bytes, reply_for};
 ghost use Rattle.com_model.specs.Issue.{or_ok};
@@ -27,9 +31,11 @@ use crate::asking::Found;
 use crate::deeds::{call_refusal, next_cause};
 use crate::making::fields_made;
 use com_base::{ByteList, HResult, Kind, Memory, RefValue, Rows, Value};
-use com_calls::Issued;
+use com_calls::{Enclosed, Issued};
 use com_deeds::{number_or_zero, object_in, out, refusal_or_ok};
-use com_exchange::{Connections, Message, references_in, reply, request, sent_result, sent_values};
+use com_exchange::{
+    Answer, Connections, Message, references_in, reply, request, sent_result, sent_values,
+};
 use com_model::{Deed, Issue, Route};
 use com_view::{References, View};
 use std::alloc::Global;
@@ -89,6 +95,21 @@ struct CallArguments<'a> {
 struct Requested {
     sending: Sending,
     message: Message,
+}
+
+// What the body of a call leaves with, as it travels: the HRESULT, the kind of the method's result, and the value.
+#[derive(Clone, Copy)]
+struct CallResult<'a> {
+    hr: HResult,
+    kind: Option<Kind>,
+    value: Option<&'a Value>,
+}
+
+// What goes with the Leave of a call: what travels as bytes, and what the body answers with.
+#[derive(Drop)]
+struct Replied {
+    sending: Sending,
+    answer: Answer,
 }
 
 // Of a call that is not marshalled nothing travels as bytes.
@@ -258,7 +279,8 @@ pub fn call<B: Found>(
         (action.Call callee.now.target callee.now.iface callee.now.method args.now to)) }
     ensures issued { IfOk result (λ made. (to : Destination)
         → Issues view.now.scenario (sight_by view.now (B.books books.now)) lane
-        (action.Call callee.now.target callee.now.iface callee.now.method args.now to) made.deed made.issued) }
+        (action.Call callee.now.target callee.now.iface callee.now.method args.now to) made.deed made.enclosed) }
+    ensures answer { IfOk result (λ made. HasAnswer made.deed made.enclosed) }
     ensures carried { IfOk result (λ made. (to : Destination)
         → made.carried ≡ carried_by view.now.scenario (B.books books.now)
         (action.Call callee.now.target callee.now.iface callee.now.method args.now to) made.deed) }
@@ -287,7 +309,7 @@ pub fn call<B: Found>(
             cause,
             sending.bytes,
         ),
-        issued: Some(issue_of(view, target, refusal, message)),
+        enclosed: Enclosed::Issued(issue_of(view, target, refusal, message)),
         carried: sending.carried,
     })
 }
@@ -302,29 +324,61 @@ fn reference_in(alloc: Global, value: Option<&Value>) -> Result<Rows<RefValue>, 
     }
 }
 
-// The reply of a body whose call is marshalled and waited for.
-#[tactic(auto, using(crate::proofs::Sized::result_few))]
+// An equal value, where there is one. The only error is want of memory.
+fn copy_of(value: Option<&Value>) -> Result<Option<Value>, Memory>
+    ensures { IfOk result (λ copy. copy ≡ option_copied value.entry) }
+{
+    match value {
+        None => Ok(None),
+        Some(value) => Ok(Some(value.copy()?)),
+    }
+}
+
+// A body whose call is not marshalled, or not waited for, answers with the HRESULT and the value themselves.
+fn nothing_replied(alloc: Global, left: CallResult<'_>) -> Result<Replied, Memory>
+    ensures bytes { IfOk result (λ made. made.sending.bytes ≡ Option.None) }
+    ensures carried { IfOk result (λ made. made.sending.carried ≡ []) }
+    ensures answer { IfOk result (λ made. made.answer
+        ≡ record { hr = left.entry.hr; value = option_copied left.entry.value }) }
+{
+    Ok(Replied {
+        sending: nothing_sent(alloc),
+        answer: Answer::of_value(left.hr, copy_of(left.value)?),
+    })
+}
+
+// The reply of a body whose call is marshalled and waited for. The body answers with its bytes.
+#[tactic(auto, using(crate::proofs::Sized::result_few, crate::proofs::Sized::travels_can))]
 fn reply_with<B: Found>(
     view: &View<'_>,
     books: &B,
     alloc: Global,
     lane: u32,
-    answer: HResult,
-    value: Option<&Value>,
-) -> Result<Sending, Memory>
+    left: CallResult<'_>,
+) -> Result<Replied, Memory>
     requires room { HasRoom view.now (B.books books.now) }
-    requires travels { ResultCanTravel (option_copied value) }
-    ensures bytes { IfOk result (λ made. made.bytes
-        ≡ reply_for view.now.scenario (sight_by view.now (B.books books.now)) lane true answer
-        (option_copied value.entry)) }
-    ensures carried { IfOk result (λ made. made.carried ≡ carried (result_list (option_copied value.entry))) }
+    requires travels { TravelsAs left.kind left.hr (option_copied left.value) }
+    requires connected { AllConnected (B.books books.now).live
+        (carried (result_list (option_copied left.value))) }
+    ensures bytes { IfOk result (λ made. made.sending.bytes
+        ≡ reply_for view.now.scenario (sight_by view.now (B.books books.now)) lane true left.entry.hr
+        (option_copied left.entry.value)) }
+    ensures carried { IfOk result (λ made. made.sending.carried
+        ≡ carried (result_list (option_copied left.entry.value))) }
+    ensures answer { IfOk result (λ made. made.answer
+        ≡ record { hr = left.entry.hr; value = option_copied left.entry.value }) }
 {
+    let CallResult { hr, kind, value } = left;
     let held = reference_in(alloc, value)?;
     let fields = fields_made(view, books, alloc, lane, held.as_slice())?;
-    let bytes = reply(alloc, answer, value, fields.as_slice())?;
-    Ok(Sending {
-        bytes: Some(bytes),
-        carried: held,
+    let bytes = reply(alloc, hr, value, fields.as_slice())?;
+    let answer = Answer::of_reply(hr, kind, value, fields.as_slice(), &bytes)?;
+    Ok(Replied {
+        sending: Sending {
+            bytes: Some(bytes),
+            carried: held,
+        },
+        answer,
     })
 }
 
@@ -335,21 +389,24 @@ fn reply_on<B: Found>(
     alloc: Global,
     lane: u32,
     is_wanted: bool,
-    answer: HResult,
-    value: Option<&Value>,
-) -> Result<Sending, Memory>
+    left: CallResult<'_>,
+) -> Result<Replied, Memory>
     requires room { HasRoom view.now (B.books books.now) }
-    requires travels { ResultCanTravel (option_copied value) }
-    ensures bytes { IfOk result (λ made. made.bytes
-        ≡ reply_for view.now.scenario (sight_by view.now (B.books books.now)) lane is_wanted answer
-        (option_copied value.entry)) }
-    ensures carried { IfOk result (λ made. made.carried ≡ (if is_wanted
-        then carried (result_list (option_copied value.entry)) else [])) }
+    requires travels { TravelsAs left.kind left.hr (option_copied left.value) }
+    requires connected { is_wanted ≡ true → AllConnected (B.books books.now).live
+        (carried (result_list (option_copied left.value))) }
+    ensures bytes { IfOk result (λ made. made.sending.bytes
+        ≡ reply_for view.now.scenario (sight_by view.now (B.books books.now)) lane is_wanted left.entry.hr
+        (option_copied left.entry.value)) }
+    ensures carried { IfOk result (λ made. made.sending.carried ≡ (if is_wanted
+        then carried (result_list (option_copied left.entry.value)) else [])) }
+    ensures answer { IfOk result (λ made. made.answer
+        ≡ record { hr = left.entry.hr; value = option_copied left.entry.value }) }
 {
     if is_wanted {
-        reply_with(view, books, alloc, lane, answer, value)
+        reply_with(view, books, alloc, lane, left)
     } else {
-        Ok(nothing_sent(alloc))
+        nothing_replied(alloc, left)
     }
 }
 
@@ -364,6 +421,7 @@ fn result_kind(view: &View<'_>, iface: u16, method: u16) -> Option<Kind>
 }
 
 // The Leave of a call that was issued.
+#[tactic(auto, using(crate::proofs::Sized::result_connected, crate::proofs::Sized::first_holds))]
 fn left_as<B: Found>(
     view: &View<'_>,
     books: &B,
@@ -378,7 +436,9 @@ fn left_as<B: Found>(
     ensures deed { IfOk result (λ made. made.deed
         ≡ left_as view.now.scenario (sight_by view.now (B.books books.now)) lane left.now.call
         (Some left.now.issue) answer (option_copied value.entry)) }
-    ensures issued { IfOk result (λ made. made.issued ≡ Option.None) }
+    ensures issued { IfOk result (λ made. (s : Scenario) (v : Sight) (l : ℕ) (x : Action)
+        → Issues s v l x made.deed made.enclosed) }
+    ensures answer { IfOk result (λ made. HasAnswer made.deed made.enclosed) }
     ensures carried { IfOk result (λ made. (x : Action)
         → made.carried ≡ carried_by view.now.scenario (B.books books.now) x made.deed) }
 {
@@ -393,7 +453,16 @@ fn left_as<B: Found>(
         value,
     )?;
     let is_wanted = is_marshalled && !view.calls.is_returned(left.call);
-    let sending = reply_on(view, books, alloc, lane, is_wanted, answer, value.as_ref())?;
+    let result = CallResult {
+        hr: answer,
+        kind,
+        value: value.as_ref(),
+    };
+    let replied = reply_on(view, books, alloc, lane, is_wanted, result)?;
+    let Replied {
+        sending,
+        answer: said,
+    } = replied;
     Ok(Doing {
         deed: Deed::Leave {
             call: left.call,
@@ -401,7 +470,7 @@ fn left_as<B: Found>(
             value,
             bytes: sending.bytes,
         },
-        issued: None,
+        enclosed: Enclosed::Answer(said),
         carried: sending.carried,
     })
 }
@@ -409,7 +478,8 @@ fn left_as<B: Found>(
 // The Leave where no body runs, or its call was not issued.
 fn left_bare(alloc: Global, call: u32, answer: HResult) -> Doing
     ensures deed { result.deed ≡ deed.Leave call answer Option.None Option.None }
-    ensures issued { result.issued ≡ Option.None }
+    ensures issued { (s : Scenario) (v : Sight) (l : ℕ) (x : Action) → Issues s v l x result.deed result.enclosed }
+    ensures answer { HasAnswer result.deed result.enclosed }
     ensures carried { result.carried ≡ [] }
 {
     Doing {
@@ -419,7 +489,7 @@ fn left_bare(alloc: Global, call: u32, answer: HResult) -> Doing
             value: None,
             bytes: None,
         },
-        issued: None,
+        enclosed: Enclosed::Answer(Answer::of_value(answer, None)),
         carried: Rows::new(alloc),
     }
 }
@@ -438,7 +508,9 @@ pub fn leave<B: Found>(
     ensures deed { IfOk result (λ made. made.deed
         ≡ deed_of view.now.scenario (sight_by view.now (B.books books.now)) lane (action.Leave answer
         (option_copied value.entry))) }
-    ensures issued { IfOk result (λ made. made.issued ≡ Option.None) }
+    ensures issued { IfOk result (λ made. (s : Scenario) (v : Sight) (l : ℕ) (x : Action)
+        → Issues s v l x made.deed made.enclosed) }
+    ensures answer { IfOk result (λ made. HasAnswer made.deed made.enclosed) }
     ensures carried { IfOk result (λ made. (x : Action)
         → made.carried ≡ carried_by view.now.scenario (B.books books.now) x made.deed) }
 {

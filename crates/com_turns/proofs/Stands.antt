@@ -4,6 +4,8 @@ use Rattle.std.proofs.lemmas.Bool.{false_from_ne_true, le-leb}
 use Rattle.std.specs.Prelude.{is_some}
 use Rattle.com_body.specs.declared.frame.Outcome.{Outcome}
 use Rattle.com_refs_books.specs.Changes.{Books}
+use Rattle.com_calls.specs.declared.rows.Enclosed.{Enclosed}
+use Rattle.com_calls.specs.declared.rows.Enclosed.TheVariants as enclosed
 use Rattle.com_calls.specs.declared.rows.Issued.{Issued}
 use Rattle.com_model.specs.declared.deeds.Deed.{Deed}
 use Rattle.com_model.specs.declared.deeds.Deed.TheVariants as deed
@@ -122,18 +124,19 @@ issuing_by s v l d = record {
 }
 
 issuing_told : (w : Seen) (b : Books) (st : State) (l : ℕ) (d : Deed) → Reads w b st
-    → told_of (Some (issuing_seen w b l d)) ≡ issuing_in w.scenario st (record { lane = l; deed = d })
+    → told_of (enclosed.Issued (issuing_seen w b l d)) ≡ issuing_in w.scenario st (record { lane = l; deed = d })
 issuing_told w b st l d h =
     ap (λ (v : Sight). issuing_by w.scenario v l d) (sym (reads_state w b st h))
 
-pub issued_stands : (w : Seen) (b : Books) (st : State) (l : ℕ) (d : Deed) (x : Option Issued) → Reads w b st → IsIssued w b l d x
+pub issued_stands : (w : Seen) (b : Books) (st : State) (l : ℕ) (d : Deed) (x : Enclosed) → Reads w b st → IsIssued w b l d x
     → (o : ObjectTables) (m : Moment) (t : CallTables)
     → calls_after o m (told_of x) t (record { lane = l; deed = d })
     ≡ calls_after o m (issuing_in w.scenario st (record { lane = l; deed = d })) t (record { lane = l; deed = d })
-issued_stands w b st l d None h p o m t = none_issued o m (told_of None) (issuing_in w.scenario st (record { lane = l; deed = d })) t (record { lane = l; deed = d }) p
-issued_stands w b st l d (Some i) h p o m t =
-    same_issuing o m (told_of (Some i)) (issuing_in w.scenario st (record { lane = l; deed = d })) t (record { lane = l; deed = d })
-    (ap (λ (y : Issued). told_of (Some y)) p ∙ issuing_told w b st l d h)
+issued_stands w b st l d enclosed.Nothing h p o m t = none_issued o m (told_of enclosed.Nothing) (issuing_in w.scenario st (record { lane = l; deed = d })) t (record { lane = l; deed = d }) p
+issued_stands w b st l d (enclosed.Answer a) h p o m t = none_issued o m (told_of (enclosed.Answer a)) (issuing_in w.scenario st (record { lane = l; deed = d })) t (record { lane = l; deed = d }) p
+issued_stands w b st l d (enclosed.Issued i) h p o m t =
+    same_issuing o m (told_of (enclosed.Issued i)) (issuing_in w.scenario st (record { lane = l; deed = d })) t (record { lane = l; deed = d })
+    (ap (λ (y : Issued). told_of (enclosed.Issued y)) p ∙ issuing_told w b st l d h)
 
 -- The clock's lane, where nothing is open.
 pub clock_acting : (w : Seen) (t : ℕ) → openers_at w.lanes 0 ≡ [] → acting_seen w 0 (deed.Tick t) ≡ Nobody

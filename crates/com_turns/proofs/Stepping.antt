@@ -4,7 +4,9 @@ use Rattle.std.proofs.lemmas.Grind.{common_steps}
 use Rattle.com_body.specs.declared.actions.Action.{Action}
 use Rattle.com_body.specs.declared.frame.Outcome.{Outcome}
 use Rattle.com_refs_books.specs.Changes.{Books}
-use Rattle.com_calls.specs.declared.rows.Issued.{Issued}
+use Rattle.com_calls.specs.declared.rows.Enclosed.{Enclosed}
+use Rattle.com_calls.specs.declared.rows.Enclosed.TheVariants as enclosed
+use Rattle.com_calls.specs.Enclosures.{HasAnswer}
 use Rattle.com_model.specs.declared.deeds.Deed.{Deed}
 use Rattle.com_model.specs.declared.deeds.Deed.TheVariants as deed
 use Rattle.com_model.specs.declared.keeps.Opener.{Opener}
@@ -37,10 +39,11 @@ act_of : (w : Seen) (b : Books) (l : ℕ) (a : Actor) (r : Outcome) → Steps w 
 act_of w b l a r h =
     ap (λ (x : Actor). action_of (outcome_seen w x)) h.acts ∙ ap (λ (x : Option Outcome). action_of x) h.step
 
-issued_as : (w : Seen) (b : Books) (l : ℕ) (x : Action) (d : Deed) (i : Option Issued) → (sight_by w b).act l ≡ Some x
+issued_as : (w : Seen) (b : Books) (l : ℕ) (x : Action) (d : Deed) (i : Enclosed) → (sight_by w b).act l ≡ Some x
     → Issues w.scenario (sight_by w b) l x d i → IsIssued w b l d i
-issued_as w b l x d None e h = h
-issued_as w b l x d (Some i) e h = h ∙ ap (λ (y : Option Action). issuing_with w b l d y) (sym e)
+issued_as w b l x d enclosed.Nothing e h = h
+issued_as w b l x d (enclosed.Answer a) e h = h
+issued_as w b l x d (enclosed.Issued i) e h = h ∙ ap (λ (y : Option Action). issuing_with w b l d y) (sym e)
 
 carried_as : (s : Scenario) (b : Books) (x : Action) (d : Deed) → carried_by s b x d ≡ carried_with s b (Some x) d
 carried_as s b x (deed.Out c o i m r k (Some bytes)) = refl
@@ -53,10 +56,10 @@ carried_as s b x _ = refl
 pub step_turn : (w : Seen) (b : Books) (l : ℕ) (a : Actor) (r : Outcome) (t : Turn) → Steps w l a r
     → lane_next w.scenario (sight_by w b) l ≡ Some (deed_of w.scenario (sight_by w b) l r.action)
     → t.doing.deed ≡ deed_of w.scenario (sight_by w b) l r.action
-    → Issues w.scenario (sight_by w b) l r.action t.doing.deed t.doing.issued
+    → Issues w.scenario (sight_by w b) l r.action t.doing.deed t.doing.enclosed → HasAnswer t.doing.deed t.doing.enclosed
     → t.doing.carried ≡ carried_by w.scenario b r.action t.doing.deed
     → acting_of t.acting ≡ a → IsTurn w b l (Some r) t
-step_turn w b l a r t h n d i k p =
+step_turn w b l a r t h n d i j k p =
     let s : Scenario = w.scenario in
     let v : Sight = sight_by w b in
     let act : v.act l ≡ Some r.action = act_of w b l a r h in
@@ -66,19 +69,23 @@ step_turn w b l a r t h n d i k p =
       next = n ∙ ap (λ (x : Deed). Some x) (sym d);
       acting = p ∙ sym acting;
       outcome = sym (ap (λ (x : Actor). outcome_seen w x) acting ∙ h.step);
-      issued = issued_as w b l r.action t.doing.deed t.doing.issued act i;
+      issued = issued_as w b l r.action t.doing.deed t.doing.enclosed act i;
+      answer = j;
       carried = k ∙ (carried_as s b r.action t.doing.deed ∙ ap (λ (x : Option Action). carried_with s b x t.doing.deed) (sym act));
     }
 
 -- ---- entries of rules
 
-issued_none : (w : Seen) (b : Books) (l : ℕ) (d : Deed) (i : Option Issued) → IsRule d → i ≡ None → IsIssued w b l d i
-issued_none w b l d None h e = issues_none l d h
-issued_none w b l d (Some i) h e = absurd cc
+issued_none : (w : Seen) (b : Books) (l : ℕ) (d : Deed) (i : Enclosed) → IsRule d → i ≡ enclosed.Nothing → IsIssued w b l d i
+issued_none w b l d i h e = subst (λ (x : Enclosed). IsIssued w b l d x) (sym e) (issues_none l d h)
+
+answer_none : (d : Deed) (i : Enclosed) → IsRule d → HasAnswer d i
+answer_none (deed.Leave c hr v bytes) i h = absurd h
+answer_none _ i h = tt
 
 -- The turn of an entry that is nobody's step.
 pub rule_turn : (w : Seen) (b : Books) (l : ℕ) (d : Deed) (t : Turn) → ByRule w b l d → t.doing.deed ≡ d
-    → acting_of t.acting ≡ Nobody → t.doing.issued ≡ None → t.doing.carried ≡ [] → IsTurn w b l None t
+    → acting_of t.acting ≡ Nobody → t.doing.enclosed ≡ enclosed.Nothing → t.doing.carried ≡ [] → IsTurn w b l None t
 rule_turn w b l d t h e p i k =
     let acting : acting_seen w l t.doing.deed ≡ Nobody = ap (λ (x : Deed). acting_seen w l x) e ∙ h.nobody in
     let rule : IsRule t.doing.deed = subst IsRule (sym e) h.rule in
@@ -86,7 +93,8 @@ rule_turn w b l d t h e p i k =
       next = h.next ∙ ap (λ (x : Deed). Some x) (sym e);
       acting = p ∙ sym acting;
       outcome = sym (ap (λ (x : Actor). outcome_seen w x) acting);
-      issued = issued_none w b l t.doing.deed t.doing.issued rule i;
+      issued = issued_none w b l t.doing.deed t.doing.enclosed rule i;
+      answer = answer_none t.doing.deed t.doing.enclosed rule;
       carried = k ∙ sym (carries_none w.scenario b ((sight_by w b).act l) t.doing.deed rule);
     }
 
@@ -278,13 +286,14 @@ ruled_made w b l false d p e h = ruled_lane w b l None p e h
 
 -- Where it was made, another turn with the same deed, of nobody's step, is one too.
 pub turn_ruled : (w : Seen) (b : Books) (l : ℕ) (made : Bool) (d : Deed) (t : Turn) → IsNext w b l None (turn_made made d) → made ≡ true → t.doing.deed ≡ d
-    → acting_of t.acting ≡ Nobody → t.doing.issued ≡ None → t.doing.carried ≡ [] → IsTurn w b l None t
+    → acting_of t.acting ≡ Nobody → t.doing.enclosed ≡ enclosed.Nothing → t.doing.carried ≡ [] → IsTurn w b l None t
 turn_ruled w b l true d t h m e p i k =
     record {
       next = h.next ∙ ap (λ (x : Deed). Some x) (sym e);
       acting = p ∙ (h.acting ∙ ap (λ (x : Deed). acting_seen w l x) (sym e));
       outcome = h.outcome ∙ ap (λ (x : Deed). step_seen w l x) (sym e);
-      issued = subst (λ (x : Option Issued). IsIssued w b l t.doing.deed x) (sym i) (subst (λ (x : Deed). IsIssued w b l x None) (sym e) h.issued);
+      issued = subst (λ (x : Enclosed). IsIssued w b l t.doing.deed x) (sym i) (subst (λ (x : Deed). IsIssued w b l x enclosed.Nothing) (sym e) h.issued);
+      answer = subst (λ (x : Enclosed). HasAnswer t.doing.deed x) (sym i) (subst (λ (x : Deed). HasAnswer x enclosed.Nothing) (sym e) h.answer);
       carried = k ∙ (h.carried ∙ ap (λ (x : Deed). carried_seen w b l x) (sym e));
     }
 turn_ruled w b l false d t h m e p i k = absurd cc
@@ -323,9 +332,9 @@ body_next w b l c o a r e h =
 pub given_turn : (w : Seen) (b : Books) (l c o a : ℕ) (r : Outcome) (t : Turn) → Some (Enters c o a) ≡ first (openers_at w.lanes l)
     → ((c o a : ℕ) → first (openers_at w.lanes l) ≡ Some (Enters c o a) → r ≡ body_seen w c o)
     → t.doing.deed ≡ deed_of w.scenario (sight_by w b) l r.action
-    → Issues w.scenario (sight_by w b) l r.action t.doing.deed t.doing.issued
+    → Issues w.scenario (sight_by w b) l r.action t.doing.deed t.doing.enclosed → HasAnswer t.doing.deed t.doing.enclosed
     → t.doing.carried ≡ carried_by w.scenario b r.action t.doing.deed
     → acting_of t.acting ≡ Body c o → IsTurn w b l (Some r) t
-given_turn w b l c o a r t e f d i k p =
+given_turn w b l c o a r t e f d i j k p =
     let steps : Steps w l (Body c o) r = body_steps w l c o a r (sym e) (f c o a (sym e)) in
-    step_turn w b l (Body c o) r t steps (body_next w b l c o a r (sym e) steps) d i k p
+    step_turn w b l (Body c o) r t steps (body_next w b l c o a r (sym e) steps) d i j k p

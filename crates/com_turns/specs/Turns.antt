@@ -8,7 +8,10 @@ use Rattle.com_body.specs.declared.frame.Outcome.{Outcome}
 use Rattle.com_body.specs.BodySteps.{body_step}
 use Rattle.com_body.specs.Operands.{new_cells}
 use Rattle.com_refs_books.specs.Changes.{Books}
+use Rattle.com_calls.specs.declared.rows.Enclosed.{Enclosed}
+use Rattle.com_calls.specs.declared.rows.Enclosed.TheVariants as enclosed
 use Rattle.com_calls.specs.declared.rows.Issued.{Issued}
+use Rattle.com_calls.specs.Enclosures.{HasAnswer}
 use Rattle.com_model.specs.declared.deeds.Deed.{Deed}
 use Rattle.com_model.specs.declared.deeds.Deed.TheVariants as deed
 use Rattle.com_model.specs.declared.keeps.Opener.{Opener}
@@ -92,17 +95,18 @@ issuing_with w b l d x = record {
 }
 
 -- What the calls are told of it.
-abbrev pub told_of : Option Issued → Issuing
-told_of None = record { refusal = S_OK; values = [] }
-told_of (Some i) = record { refusal = i.refusal; values = i.values }
+abbrev pub told_of : Enclosed → Issuing
+told_of (enclosed.Issued i) = record { refusal = i.refusal; values = i.values }
+told_of _ = record { refusal = S_OK; values = [] }
 
 abbrev pub issuing_seen : Seen → Books → ℕ → Deed → Issued
 issuing_seen w b l d = issuing_with w b l d ((sight_by w b).act l)
 
 -- Of an entry that issues no call there is nothing.
-abbrev pub IsIssued : Seen → Books → ℕ → Deed → Option Issued → Type 0
-IsIssued w b l d None = issues l d ≡ None
-IsIssued w b l d (Some i) = i ≡ issuing_seen w b l d
+abbrev pub IsIssued : Seen → Books → ℕ → Deed → Enclosed → Type 0
+IsIssued w b l d enclosed.Nothing = issues l d ≡ None
+IsIssued w b l d (enclosed.Issued i) = i ≡ issuing_seen w b l d
+IsIssued w b l d (enclosed.Answer a) = issues l d ≡ None
 
 -- The references that a marshalled request or reply carries, by the action that the entry's lane makes, if
 -- any.
@@ -122,7 +126,8 @@ pub record IsTurn (w : Seen) (b : Books) (l : ℕ) (r : Option Outcome) (t : Tur
   pub next : lane_next w.scenario (sight_by w b) l ≡ Some t.doing.deed
   pub acting : acting_of t.acting ≡ acting_seen w l t.doing.deed
   pub outcome : r ≡ step_seen w l t.doing.deed
-  pub issued : IsIssued w b l t.doing.deed t.doing.issued
+  pub issued : IsIssued w b l t.doing.deed t.doing.enclosed
+  pub answer : HasAnswer t.doing.deed t.doing.enclosed
   pub carried : t.doing.carried ≡ carried_seen w b l t.doing.deed
 
 -- There is none where the lane makes no entry.
@@ -140,7 +145,7 @@ is_ruled w l =
 abbrev pub ruled_turn : Deed → Turn
 ruled_turn d = record {
   acting = performer.Nobody;
-  doing = record { deed = d; issued = None; carried = [] };
+  doing = record { deed = d; enclosed = enclosed.Nothing; carried = [] };
 }
 
 -- Where such an entry was made.

@@ -2,7 +2,8 @@
 
 ghost use Rattle.std.specs.Prelude.{◌≡◌, ◌≤◌, ℕ, [], None, Option, is_some};
 ghost use Rattle.com_refs_books.specs.Changes.{Books};
-ghost use Rattle.com_calls.specs.declared.rows.Issued.{Issued};
+ghost use Rattle.com_calls.specs.declared.rows.Enclosed.{Enclosed};
+ghost use Rattle.com_calls.specs.declared.rows.Enclosed.TheVariants.{Nothing};
 ghost use Rattle.com_model.specs.Calls.{issues, lane_of, object_of};
 ghost use Rattle.com_model.specs.declared.deeds.Deed.{Deed};
 ghost use Rattle.com_model.specs.declared.deeds.Deed.TheVariants as deed;
@@ -35,7 +36,7 @@ pub fn reads_the_turn()
         actor_later w l d ≡ actor_after w.scenario st (record { lane = l; deed = d }) }
     ensures apartment { (w : Seen) (b : Books) (st : State) (l : ℕ) (d : Deed) → Reads w b st →
         (issuing_seen w b l d).apartment ≡ named_in st (object_of (issues l d)) }
-    ensures issued { (w : Seen) (b : Books) (st : State) (l : ℕ) (d : Deed) (x : Option Issued) →
+    ensures issued { (w : Seen) (b : Books) (st : State) (l : ℕ) (d : Deed) (x : Enclosed) →
         Reads w b st → IsIssued w b l d x → (o : ObjectTables) (m : Moment) (t : CallTables) →
         let e : Entry = record { lane = l; deed = d } in
         calls_after o m (told_of x) t e ≡ calls_after o m (issuing_in w.scenario st e) t e }
@@ -53,6 +54,6 @@ pub fn reads_the_turn()
 pub fn nobody_acts_for_the_clock()
     ensures acting { (w : Seen) (t : ℕ) → openers_at w.lanes 0 ≡ [] → acting_seen w 0 (deed.Tick t) ≡ Nobody }
     ensures step { (w : Seen) (t : ℕ) → openers_at w.lanes 0 ≡ [] → step_seen w 0 (deed.Tick t) ≡ None }
-    ensures issued { (w : Seen) (b : Books) (t : ℕ) → IsIssued w b 0 (deed.Tick t) None }
+    ensures issued { (w : Seen) (b : Books) (t : ℕ) → IsIssued w b 0 (deed.Tick t) Nothing }
     ensures carried { (w : Seen) (b : Books) (t : ℕ) → carried_seen w b 0 (deed.Tick t) ≡ [] }
 {}

@@ -1,6 +1,7 @@
 //! The turn of a lane.
 
 ghost use Rattle.std.specs.Prelude.{◌≡◌, ℕ, ◌≤◌, [], IfOk, None, OnOk, Some, false, map, true};
+ghost use Rattle.com_calls.specs.declared.rows.Enclosed.TheVariants.{Nothing};
 ghost use Rattle.com_model.specs.declared.keeps.Opener.TheVariants.{Enters};
 ghost use Rattle.com_model.specs.Deeds.{deed_of};
 ghost use Rattle.com_model.specs.Frames.{Nobody, is_leave};
@@ -22,7 +23,7 @@ use crate::steps::{body_step, script_step};
 use com_base::{Memory, Rows};
 use com_body::{Action, Outcome};
 use com_model::{Deed, Opener};
-use com_rules::{Doing, Found, act, rule_deed, script_over};
+use com_rules::{Doing, Enclosed, Found, act, rule_deed, script_over};
 use com_scene::Actor;
 use com_servant::Servant;
 use com_view::View;
@@ -42,14 +43,14 @@ pub struct Turn {
 fn by_rule(alloc: Global, deed: Deed) -> Turn
     ensures deed { result.doing.deed ≡ deed }
     ensures acting { acting_of result.acting ≡ Nobody }
-    ensures issued { result.doing.issued ≡ None }
+    ensures enclosed { result.doing.enclosed ≡ Nothing }
     ensures carried { result.doing.carried ≡ [] }
 {
     Turn {
         acting: Actor::Nobody,
         doing: Doing {
             deed,
-            issued: None,
+            enclosed: Enclosed::Nothing,
             carried: Rows::new(alloc),
         },
     }

@@ -12,49 +12,53 @@ use crate::view::View;
 use com_base::{HResult, Memory, Value};
 use com_deeds::answer_code;
 use com_model::{Deed, Ending};
+use std::alloc::Global;
 
-// The value that an answer has. The only error is want of memory.
-fn value_of(ending: &Ending) -> Result<Option<Value>, Memory>
-    ensures { IfOk result (λ value. (hr : HResult) → value ≡ (answer_of hr ending.now).value) }
+// The value that an answer has.
+fn value_of(ending: Ending) -> Option<Value>
+    ensures { (hr : HResult) → result ≡ (answer_of hr ending).value }
 {
     match ending {
-        Ending::ByLeave(_, Some(value)) => Ok(Some(value.copy()?)),
-        _ => Ok(None),
+        Ending::ByLeave(_, value) => value,
+        _ => None,
     }
 }
 
 // The Back of a call with this answer; with RPC_E_CLIENT_CANTUNMARSHAL_DATA where the packet of its result is
 // gone.
-fn back_of(call: u32, ending: &Ending, refusal: HResult, is_gone: bool) -> Result<Deed, Memory>
-    ensures { IfOk result (λ deed. deed ≡ back_with call (if is_gone
-        then without_value RPC_E_CLIENT_CANTUNMARSHAL_DATA else answer_of refusal ending.now)) }
+fn back_of(call: u32, ending: Ending, refusal: HResult, is_gone: bool) -> Deed
+    ensures { result ≡ back_with call (if is_gone
+        then without_value RPC_E_CLIENT_CANTUNMARSHAL_DATA else answer_of refusal ending) }
 {
     if is_gone {
-        return Ok(Deed::Back {
+        return Deed::Back {
             call,
             hr: HResult::RPC_E_CLIENT_CANTUNMARSHAL_DATA,
             value: None,
-        });
+        };
     }
-    let value = value_of(ending)?;
-    Ok(Deed::Back {
+    let hr = answer_code(&ending, refusal);
+    Deed::Back {
         call,
-        hr: answer_code(ending, refusal),
-        value,
-    })
+        hr,
+        value: value_of(ending),
+    }
 }
 
 impl<'a> View<'a> {
-    /// The Back of a call, where it has an answer. `is_gone` says that its answer is that of a body, and that
-    /// the packet of its result was given up. The only error is want of memory.
-    pub fn back(&self, call: u32, is_gone: bool) -> Result<Option<Deed>, Memory>
+    /// The Back of a call, where it has an answer: what a reply says is read in its bytes. `is_gone` says that its
+    /// answer is that of a body, and that the packet of its result was given up. The only error is want of memory.
+    pub fn back(&self, alloc: Global, call: u32, is_gone: bool) -> Result<Option<Deed>, Memory>
         ensures { (b : Books) → result_gone (sight_by self.now b) call (b.result call) ≡ is_gone →
             IfOk result (λ deed. deed ≡ option_map (λ x. back_with call (back_answer
             (sight_by self.now b) call x)) (due_of (sight_by self.now b) call)) }
     {
-        match self.calls.ending(call) {
+        match self.calls.read_ending(alloc, call)? {
             None => Ok(None),
-            Some(ending) => Ok(Some(back_of(call, ending, self.calls.refusal(call), is_gone)?)),
+            Some(ending) => {
+                let refusal = self.calls.refusal(call);
+                Ok(Some(back_of(call, ending, refusal, is_gone)))
+            }
         }
     }
 }

@@ -11,9 +11,9 @@ ghost use Rattle.com_view.specs.Given.{gone_in};
 
 use crate::view::View;
 use com_base::{HResult, Memory};
-use com_deeds::is_leave;
 use com_model::Deed;
 use com_refs_books::Cookie;
+use std::alloc::Global;
 
 /// Who holds references, as the rules ask for it.
 pub trait References {
@@ -52,10 +52,7 @@ impl<'a> View<'a> {
     fn is_left(&self, call: u32) -> bool
         ensures { result ≡ is_leave ((bare self.now).ending call) }
     {
-        match self.calls.ending(call) {
-            Some(ending) => is_leave(ending),
-            None => false,
-        }
+        self.calls.is_left(call)
     }
 
     // Whether the packet of an argument of a call was given up that travels as bytes.
@@ -101,6 +98,7 @@ impl<'a> View<'a> {
     pub(crate) fn answer_of<R: References>(
         &self,
         refs: &R,
+        alloc: Global,
         call: u32,
     ) -> Result<Option<Deed>, Memory>
         ensures { IfOk result (λ deed. deed
@@ -118,6 +116,6 @@ impl<'a> View<'a> {
             }));
         }
         let is_gone = self.has_lost_result(refs, call);
-        self.back(call, is_gone)
+        self.back(alloc, call, is_gone)
     }
 }

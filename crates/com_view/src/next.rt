@@ -42,10 +42,7 @@ impl<'a> View<'a> {
     pub fn is_answered(&self, call: u32) -> bool
         ensures { result ≡ is_some ((bare self.now).ending call) }
     {
-        match self.calls.ending(call) {
-            Some(_) => true,
-            None => false,
-        }
+        self.calls.is_answered(call)
     }
 
     // Whether a call is posted in an STA's inbox, where the home is one.

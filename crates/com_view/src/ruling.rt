@@ -87,11 +87,17 @@ impl<'a> View<'a> {
     // Makes what the lane's own call with an answer gives up, or comes back with. The only error is want of
     // memory.
     #[inline(never)]
-    fn answer<R: References>(&self, refs: &R, call: u32, deed: &mut Deed) -> Result<bool, Memory>
+    fn answer<R: References>(
+        &self,
+        refs: &R,
+        alloc: Global,
+        call: u32,
+        deed: &mut Deed,
+    ) -> Result<bool, Memory>
         ensures { IfOk result (λ made. where_true made deed.new
             ≡ answer_deed (sight_by self.now (R.books refs.now)) call) }
     {
-        let made = self.answer_of(refs, call)?;
+        let made = self.answer_of(refs, alloc, call)?;
         Ok(put(made, deed))
     }
 
@@ -173,7 +179,7 @@ impl<'a> View<'a> {
             ≡ wait_deed self.now.scenario (sight_by self.now (R.books refs.now)) lane call) }
     {
         if self.is_answered(call) {
-            return self.answer(refs, call, deed);
+            return self.answer(refs, alloc, call, deed);
         }
         if self.is_posted(call) {
             return self.posted_deed(refs, alloc, lane, call, deed);

@@ -12,8 +12,8 @@ returns-clause-rows c =
     let row : RowView = slice_index_or rows (c.args.call - 1) d in
     let is : row.issue.call ≡ c.args.call = call_of_row rows c.args.call d (omega arith) (omega arith) c.requires in
     ap (λ (r : RowView). slice_set rows (c.args.call - 1) r) c.leave.ensures.row
-    ∙ ap (λ (n : ℕ). slice_set rows (c.args.call - 1) (left_with n c.args.hr c.args.value row)) is
-    ∙ sym (changed_at (left_with c.args.call c.args.hr c.args.value) c.args.call rows d (omega arith) (omega arith))
+    ∙ ap (λ (n : ℕ). slice_set rows (c.args.call - 1) (left_with n c.args.answer.hr c.args.answer.value row)) is
+    ∙ sym (changed_at (left_with c.args.call c.args.answer.hr c.args.answer.value) c.args.call rows d (omega arith) (omega arith))
 
 pub returns-clause-late : goal.returns-clause-late
 returns-clause-late c =
@@ -22,5 +22,5 @@ returns-clause-late c =
     let row : RowView = slice_index_or rows (c.args.call - 1) d in
     let is : row.issue.call ≡ c.args.call = call_of_row rows c.args.call d (omega arith) (omega arith) c.requires in
     c.leave.ensures.late
-    ∙ ap (λ (n : ℕ). late_of row.ending (record { call = n; hr = c.args.hr; value = c.args.value })) is
-    ∙ sym (ap (λ (r : Option RowView). late_row r (record { call = c.args.call; hr = c.args.hr; value = c.args.value })) (row_place rows c.args.call d (omega arith) (omega arith)))
+    ∙ ap (λ (n : ℕ). late_of row.ending (record { call = n; hr = c.args.answer.hr; value = c.args.answer.value })) is
+    ∙ sym (ap (λ (r : Option RowView). late_row r (record { call = c.args.call; hr = c.args.answer.hr; value = c.args.answer.value })) (row_place rows c.args.call d (omega arith) (omega arith)))

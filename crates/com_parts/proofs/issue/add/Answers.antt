@@ -1,5 +1,5 @@
-use Rattle.std.proofs.Common.{◌≡◌, Option, sym, ◌∙◌, subst}
-use Rattle.com_calls.specs.declared.rows.Issued.{Issued}
+use Rattle.std.proofs.Common.{◌≡◌, sym, subst}
+use Rattle.com_calls.specs.declared.rows.Enclosed.{Enclosed}
 use Rattle.com_calls.specs.Kept.{with_call}
 use Rattle.com_calls.specs.Steps.{out_entry}
 use Rattle.com_state.specs.Parts.{calls_after}
@@ -9,7 +9,7 @@ use Rattle.com_parts.proofs.issue.add.Goals as goal
 
 pub returns : goal.returns
 returns c = λ o filtered bytes.
-    subst (λ (x : Option Issued). c.add.new.self ≡ with_call c.args.calls.now c.args.apartment (calls_after o
+    subst (λ (x : Enclosed). c.add.new.self ≡ with_call c.args.calls.now c.args.apartment (calls_after o
     (record { is_outermost = c.args.is_outermost; filtered = filtered; clock = c.args.clock }) (issuing_of (sent_by x))
     c.args.calls.now.tables (out_entry c.args.issue bytes)))
-    (sym c.in-Some.is ∙ c.take.ensures.value) (c.add.ensures o filtered bytes)
+    (sym c.take_issued-values.ensures) (c.add.ensures o filtered bytes)

@@ -26,7 +26,7 @@ returns-in_ok-made-in-Call-clause-issued g c =
     let x = c.in-Call in
     let m = c.in_ok-made-in-Call.made in
     rw c.in-Call.is
-    (subst (λ (args : List Value). Issues w.scenario v c.args.lane (action.Call x.target x.iface x.method args x.destination) m.deed m.issued) c.as_slice.ensures
+    (subst (λ (args : List Value). Issues w.scenario v c.args.lane (action.Call x.target x.iface x.method args x.destination) m.deed m.enclosed) c.as_slice.ensures
     (c.in_ok-made-in-Call.ensures.issued x.destination))
 
 pub returns-in_ok-made-in-Call-clause-carried : goal.returns-in_ok-made-in-Call-clause-carried

@@ -1,4 +1,6 @@
-use Rattle.std.proofs.Common.{sym, ap, ◌∙◌}
+use Rattle.std.proofs.Common.{sym, ap, subst, ◌∙◌}
+use Rattle.com_calls.specs.declared.rows.Enclosed.TheVariants.{Nothing}
+use Rattle.com_calls.specs.Enclosures.{HasAnswer}
 use Rattle.com_model.specs.declared.deeds.Deed.{Deed}
 use Rattle.com_model.specs.Calls.{issues}
 use Rattle.com_view.specs.Seen.{sight_by}
@@ -19,3 +21,10 @@ returns-clause-carried g c =
     let w = c.args.view.now in
     c.new.ensures ∙ sym (ap (λ (d : Deed). carried_by w.scenario b c.args.action.now d) c.in_ok-deed.ensures
     ∙ (quiet w.scenario (sight_by w b) c.args.lane c.args.action.now c.requires.silent).carries_none b)
+
+pub returns-clause-answer : goal.returns-clause-answer
+returns-clause-answer g c =
+    let b = g.B.References.books c.args.books.now in
+    let w = c.args.view.now in
+    subst (λ (d : Deed). HasAnswer d Nothing) (sym c.in_ok-deed.ensures)
+    (quiet w.scenario (sight_by w b) c.args.lane c.args.action.now c.requires.silent).answers_none

@@ -25,5 +25,5 @@ returns g c =
     sym (ap (λ (o : Opener). Some o) x.field-0-is) ∙ sym x.is ∙ c.top.ensures ∙ ap (λ (w : Seen). first (openers_at w.lanes c.args.lane)) c.view.view_is in
     record {
       turn = given_turn c.args.view.now b c.args.lane x.call x.object x.field-0-2 c.args.outcome.now _ top c.requires.step
-          c.in_ok-doing.ensures.deed c.in_ok-doing.ensures.issued c.in_ok-doing.ensures.carried refl;
+          c.in_ok-doing.ensures.deed c.in_ok-doing.ensures.issued c.in_ok-doing.ensures.answer c.in_ok-doing.ensures.carried refl;
     }

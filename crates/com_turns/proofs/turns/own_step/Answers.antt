@@ -33,4 +33,4 @@ returns-then-is_leave-clause-turn g c =
     rule_turn c.args.view.now b c.args.lane c.script_over.result c.by_rule.result
     (over_rules c.args.view.now b c.args.lane c.in-Some.outcome c.script_over.result c.requires.script c.requires.no_final
     e (sym c.is_leave.ensures ∙ c.if-is_leave.true) (c.script_over.ensures b))
-    c.by_rule.ensures.deed c.by_rule.ensures.acting c.by_rule.ensures.issued c.by_rule.ensures.carried
+    c.by_rule.ensures.deed c.by_rule.ensures.acting c.by_rule.ensures.enclosed c.by_rule.ensures.carried

@@ -8,7 +8,7 @@ returns-then-made g c =
     let b = g.B.References.books c.args.books.now in
     record {
       turn = turn_ruled w b c.args.lane c.in_ok-made.made c.rule_turn.new.deed c.by_rule.result c.in_ok-made.ensures.turn c.if-made.true
-          c.by_rule.ensures.deed c.by_rule.ensures.acting c.by_rule.ensures.issued c.by_rule.ensures.carried;
+          c.by_rule.ensures.deed c.by_rule.ensures.acting c.by_rule.ensures.enclosed c.by_rule.ensures.carried;
     }
 
 pub returns : goal.returns

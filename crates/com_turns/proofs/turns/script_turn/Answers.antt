@@ -16,4 +16,4 @@ returns-in-Some-clause-turn g c =
     let f : rule_final (sight_by c.args.view.now b) c.args.lane ≡ Some c.in-Some.deed = let e = c.finals.ensures b in cc in
     subst (λ (r : Option Outcome). IsTurn c.args.view.now b c.args.lane r c.by_rule.result) (sym c.requires.none)
     (rule_turn c.args.view.now b c.args.lane c.in-Some.deed c.by_rule.result (final_rules c.args.view.now b c.args.lane c.in-Some.deed c.requires.script f)
-    c.by_rule.ensures.deed c.by_rule.ensures.acting c.by_rule.ensures.issued c.by_rule.ensures.carried)
+    c.by_rule.ensures.deed c.by_rule.ensures.acting c.by_rule.ensures.enclosed c.by_rule.ensures.carried)

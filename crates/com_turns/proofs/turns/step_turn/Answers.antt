@@ -11,5 +11,5 @@ returns g c =
     let b = g.B.References.books c.args.books.now in
     record {
       turn = step_turn c.args.view.now b c.args.lane (acting_of c.args.acting) c.args.outcome.now _ c.requires.steps c.requires.next
-          c.in_ok-doing.ensures.deed c.in_ok-doing.ensures.issued c.in_ok-doing.ensures.carried refl;
+          c.in_ok-doing.ensures.deed c.in_ok-doing.ensures.issued c.in_ok-doing.ensures.answer c.in_ok-doing.ensures.carried refl;
     }

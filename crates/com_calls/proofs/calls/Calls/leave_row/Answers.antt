@@ -18,33 +18,33 @@ use Rattle.com_calls.proofs.calls.Calls.leave_row.Goals as goal
 pub invariant_of-self : goal.invariant_of-self
 invariant_of-self c =
     let s = c.self.inside in
-    let came : c.leave-late.result ≡ late_row (row_at s.rows.items c.args.call) (record { call = c.args.call; hr = c.args.hr; value = c.args.value }) =
-    c.leave-late.ensures.late ∙ ap (λ (xs : List RowView). late_row (row_at xs c.args.call) (record { call = c.args.call; hr = c.args.hr; value = c.args.value })) c.deref_mut.ensures.value in
-    let is : take s.rows.len (c.leave-late.new.rows ++ drop (length c.leave-late.new.rows) s.rows.items) ≡ changed_row (left_with c.args.call c.args.hr c.args.value) c.args.call s.rows.items = grind (arith, common_steps) in (
-      rw (is, c.remove.ensures.queues) (kept_retired (left_with c.args.call c.args.hr c.args.value) c.args.call s.rows.items s.posted.calls s.waiting s.rows.cap s.room s.causes c.self.invariant.0 (λ r. refl) (left_waits_not c.args.call c.args.hr c.args.value)),
-      rw is (covered_fewer (left_with c.args.call c.args.hr c.args.value) c.args.call s.rows.items s.delayed.items (vec_capacity s.delayed) s.room (λ r h. ended_fewer (ByLeave c.args.hr c.args.value) r h) c.self.invariant.1),
-      rw is (numbered_changed (left_with c.args.call c.args.hr c.args.value) c.args.call s.rows.items (λ r. refl) c.self.invariant.2),
+    let came : c.leave-late.result ≡ late_row (row_at s.rows.items c.args.call) (record { call = c.args.call; hr = c.args.answer.hr; value = c.args.answer.value }) =
+    c.leave-late.ensures.late ∙ ap (λ (xs : List RowView). late_row (row_at xs c.args.call) (record { call = c.args.call; hr = c.args.answer.hr; value = c.args.answer.value })) c.deref_mut.ensures.value in
+    let is : take s.rows.len (c.leave-late.new.rows ++ drop (length c.leave-late.new.rows) s.rows.items) ≡ changed_row (left_with c.args.call c.args.answer.hr c.args.answer.value) c.args.call s.rows.items = grind (arith, common_steps) in (
+      rw (is, c.remove.ensures.queues) (kept_retired (left_with c.args.call c.args.answer.hr c.args.answer.value) c.args.call s.rows.items s.posted.calls s.waiting s.rows.cap s.room s.causes c.self.invariant.0 (λ r. refl) (left_waits_not c.args.call c.args.answer.hr c.args.answer.value)),
+      rw is (covered_fewer (left_with c.args.call c.args.answer.hr c.args.answer.value) c.args.call s.rows.items s.delayed.items (vec_capacity s.delayed) s.room (λ r h. ended_fewer (ByLeave c.args.answer.hr c.args.answer.value) r h) c.self.invariant.1),
+      rw is (numbered_changed (left_with c.args.call c.args.answer.hr c.args.answer.value) c.args.call s.rows.items (λ r. refl) c.self.invariant.2),
       omega (arith, c.self.invariant.3, c.keep.ensures.capacity),
-      c.keep.ensures.len s.rows.len c.self.invariant.4 (λ l e. omega (arith, late_within c.args.call s.rows.items (record { call = c.args.call; hr = c.args.hr; value = c.args.value }) l (sym came ∙ e), s.rows.ok.0)),
-      rw is (listed_fewer (left_with c.args.call c.args.hr c.args.value) c.args.call s.rows.items s.reachable.items (vec_capacity s.reachable) s.room (left_unreached c.args.call c.args.hr c.args.value) c.self.invariant.5),
-      rw is (let_go_changed (left_with c.args.call c.args.hr c.args.value) c.args.call s.rows.items (λ r h e. refl) c.self.invariant.6),
+      c.keep.ensures.len s.rows.len c.self.invariant.4 (λ l e. omega (arith, late_within c.args.call s.rows.items (record { call = c.args.call; hr = c.args.answer.hr; value = c.args.answer.value }) l (sym came ∙ e), s.rows.ok.0)),
+      rw is (listed_fewer (left_with c.args.call c.args.answer.hr c.args.answer.value) c.args.call s.rows.items s.reachable.items (vec_capacity s.reachable) s.room (left_unreached c.args.call c.args.answer.hr c.args.answer.value) c.self.invariant.5),
+      rw is (let_go_changed (left_with c.args.call c.args.answer.hr c.args.answer.value) c.args.call s.rows.items (λ r h e. refl) c.self.invariant.6),
     )
 
 pub returns : goal.returns
 returns c =
     let s = c.self.inside in
-    let came : c.leave-late.result ≡ late_row (row_at s.rows.items c.args.call) (record { call = c.args.call; hr = c.args.hr; value = c.args.value }) =
-    c.leave-late.ensures.late ∙ ap (λ (xs : List RowView). late_row (row_at xs c.args.call) (record { call = c.args.call; hr = c.args.hr; value = c.args.value })) c.deref_mut.ensures.value in
-    let is : take s.rows.len (c.leave-late.new.rows ++ drop (length c.leave-late.new.rows) s.rows.items) ≡ changed_row (left_with c.args.call c.args.hr c.args.value) c.args.call s.rows.items = grind (arith, common_steps) in
+    let came : c.leave-late.result ≡ late_row (row_at s.rows.items c.args.call) (record { call = c.args.call; hr = c.args.answer.hr; value = c.args.answer.value }) =
+    c.leave-late.ensures.late ∙ ap (λ (xs : List RowView). late_row (row_at xs c.args.call) (record { call = c.args.call; hr = c.args.answer.hr; value = c.args.answer.value })) c.deref_mut.ensures.value in
+    let is : take s.rows.len (c.leave-late.new.rows ++ drop (length c.leave-late.new.rows) s.rows.items) ≡ changed_row (left_with c.args.call c.args.answer.hr c.args.answer.value) c.args.call s.rows.items = grind (arith, common_steps) in
     ap (λ (xs : List RowView). with_later (kept_of xs s.posted.calls c.remove.new.self s.room s.causes) c.keep.new.later.items) is
-    ∙ ap (λ (q : Queues). with_later (kept_of (changed_row (left_with c.args.call c.args.hr c.args.value) c.args.call s.rows.items) s.posted.calls q s.room s.causes) c.keep.new.later.items) c.remove.ensures.queues
-    ∙ ap (λ (ys : List (Option Leaving)). with_later (kept_of (changed_row (left_with c.args.call c.args.hr c.args.value) c.args.call s.rows.items) s.posted.calls (without_number s.waiting c.args.call) s.room s.causes) ys) (c.keep.ensures.items ∙ ap (λ (x : Option Leaving). with_late_call s.later.items c.args.call x) came)
-    ∙ seen_left c.args.call c.args.hr c.args.value s.rows.items s.later.items s.posted.calls s.waiting s.room s.causes
-    ∙ ap (λ (b : Kept). with_tables b (left_at b.tables c.args.call c.args.hr c.args.value)) c.self.view_is
+    ∙ ap (λ (q : Queues). with_later (kept_of (changed_row (left_with c.args.call c.args.answer.hr c.args.answer.value) c.args.call s.rows.items) s.posted.calls q s.room s.causes) c.keep.new.later.items) c.remove.ensures.queues
+    ∙ ap (λ (ys : List (Option Leaving)). with_later (kept_of (changed_row (left_with c.args.call c.args.answer.hr c.args.answer.value) c.args.call s.rows.items) s.posted.calls (without_number s.waiting c.args.call) s.room s.causes) ys) (c.keep.ensures.items ∙ ap (λ (x : Option Leaving). with_late_call s.later.items c.args.call x) came)
+    ∙ seen_left c.args.call c.args.answer.hr c.args.answer.value s.rows.items s.later.items s.posted.calls s.waiting s.room s.causes
+    ∙ ap (λ (b : Kept). with_tables b (left_at b.tables c.args.call c.args.answer.hr c.args.answer.value)) c.self.view_is
 
 pub keep-requires : goal.keep-requires
 keep-requires c = λ l e.
     let s = c.self.inside in
-    let came : c.leave-late.result ≡ late_row (row_at s.rows.items c.args.call) (record { call = c.args.call; hr = c.args.hr; value = c.args.value }) =
-    c.leave-late.ensures.late ∙ ap (λ (xs : List RowView). late_row (row_at xs c.args.call) (record { call = c.args.call; hr = c.args.hr; value = c.args.value })) c.deref_mut.ensures.value in
-    omega (arith, late_within c.args.call s.rows.items (record { call = c.args.call; hr = c.args.hr; value = c.args.value }) l (sym came ∙ e), c.self.invariant.0.within, c.self.invariant.3)
+    let came : c.leave-late.result ≡ late_row (row_at s.rows.items c.args.call) (record { call = c.args.call; hr = c.args.answer.hr; value = c.args.answer.value }) =
+    c.leave-late.ensures.late ∙ ap (λ (xs : List RowView). late_row (row_at xs c.args.call) (record { call = c.args.call; hr = c.args.answer.hr; value = c.args.answer.value })) c.deref_mut.ensures.value in
+    omega (arith, late_within c.args.call s.rows.items (record { call = c.args.call; hr = c.args.answer.hr; value = c.args.answer.value }) l (sym came ∙ e), c.self.invariant.0.within, c.self.invariant.3)

@@ -67,10 +67,10 @@ returns-clause-becomes c =
     let a = c.args in
     let v = a.self.now in
     let same : parts_shown c.book.new.self.parts ≡ parts_shown v.parts = ap parts_shown c.book.ensures.parts ∙ c.begin_parts.ensures.same ∙ ap parts_shown c.prepare.ensures.parts in
-    let made : Becomes v.parts c.finish_parts.new.self.parts a.entry.now (acting_of a.acting) a.outcome.now (acting_of a.basis.after) a.basis.has_filter (sent_by a.issued.now) v.clock =
+    let made : Becomes v.parts c.finish_parts.new.self.parts a.entry.now (acting_of a.acting) a.outcome.now (acting_of a.basis.after) a.basis.has_filter (sent_by a.enclosed.now) v.clock =
     becomes_finished v.parts c.book.new.self.parts c.finish_parts.new.self.parts a.entry.now (acting_of a.acting) a.outcome.now (acting_of a.basis.after)
-    a.basis.has_filter (sent_by a.issued.now) v.clock same c.finish_parts.ensures.becomes in
-    subst (λ (t : PartTables). Becomes v.parts t a.entry.now (acting_of a.acting) a.outcome.now (acting_of a.basis.after) a.basis.has_filter (sent_by a.issued.now) v.clock) (sym c.settle.ensures.parts) made
+    a.basis.has_filter (sent_by a.enclosed.now) v.clock same c.finish_parts.ensures.becomes in
+    subst (λ (t : PartTables). Becomes v.parts t a.entry.now (acting_of a.acting) a.outcome.now (acting_of a.basis.after) a.basis.has_filter (sent_by a.enclosed.now) v.clock) (sym c.settle.ensures.parts) made
 
 -- ---- the running bodies and the dying objects
 

@@ -48,7 +48,7 @@ returns-clause-becomes c =
     let a = c.args in
     let v = a.self.now in
     becomes_finished v.parts c.begin_parts.new.self.parts c.finish_parts.new.self.parts a.entry.now (acting_of a.acting) a.outcome.now (acting_of a.basis.after)
-    a.basis.has_filter (sent_by a.issued.now) v.clock c.begin_parts.ensures.same c.finish_parts.ensures.becomes
+    a.basis.has_filter (sent_by a.enclosed.now) v.clock c.begin_parts.ensures.same c.finish_parts.ensures.becomes
 
 -- ---- the running bodies and the dying objects
 

@@ -20,11 +20,11 @@ returns-clause-begun c =
     subst (λ (p : PartTables). Fits p.lanes p.objects p.calls e.lane e.deed.now clock) (sym c.self.view_is) c.requires.fits in
     then_ok c.prepare.result
     (λ ready. begun_is c.self.inside.lanes c.reserve.new.lanes c.self.inside.objects c.reserve.new.objects c.self.inside.calls c.reserve.new.calls c.prepare.new.self
-    c.take_left.new.left c.keep_owners.new.owners.items c.self.inside.entries
+    c.keep_owners.new.owners.items c.self.inside.entries
     e.lane clock c.reserve.new.calls.room c.reserve.new.calls.inboxes (acting_of e.acting) (acting_of e.after) e.deed.now
     c.in_ok-reserve.ensures.lanes c.in_ok-reserve.ensures.objects c.in_ok-reserve.ensures.calls
     fits
     (subst (λ (p : PartTables). p.entries < 2 ^ 28) (sym c.self.view_is) c.requires.few)
     (subst (λ (p : PartTables). length p.calls.apartments ≡ length p.calls.tables.issues) (sym c.self.view_is) c.homes.ensures)
-    c.in_ok-reserve.ensures.space c.in_ok-reserve.ensures.row c.in_ok-reserve.ensures.place ready c.in_ok-take_left.ensures c.in_ok-keep_owners.ensures)
+    c.in_ok-reserve.ensures.space c.in_ok-reserve.ensures.row c.in_ok-reserve.ensures.place ready c.in_ok-keep_owners.ensures)
     c.prepare.ensures.ready

@@ -16,7 +16,7 @@ returns-clause-calls c =
     let x = c.args.change.now in
     let e : Entry = record { lane = x.entry.lane; deed = x.entry.deed.now } in
     let t : CallTables = c.change_calls.new.calls.tables in
-    subst (λ (p : PartTables). t ≡ calls_after p.objects (moment_at p.lanes x.entry.lane x.has_filter x.clock) (issuing_of (sent_by c.args.issued.now)) p.calls.tables e) c.self.view_is
+    subst (λ (p : PartTables). t ≡ calls_after p.objects (moment_at p.lanes x.entry.lane x.has_filter x.clock) (issuing_of (sent_by c.args.enclosed.now)) p.calls.tables e) c.self.view_is
     (c.change_calls.ensures.tables c.self.invariant.named)
 
 pub invariant_of-self : goal.invariant_of-self
@@ -24,7 +24,7 @@ invariant_of-self c =
     let x = c.args.change.now in
     let v = c.self.inside in
     let e : Entry = record { lane = x.entry.lane; deed = x.entry.deed.now } in
-    let begun : IsBegun (parts_of v.lanes v.objects v.calls v.scene v.entries v.left v.owners.items) (acting_of x.entry.acting) (acting_of x.entry.after) x.entry.lane x.entry.deed.now x.clock =
+    let begun : IsBegun (parts_of v.lanes v.objects v.calls v.scene v.entries v.owners.items) (acting_of x.entry.acting) (acting_of x.entry.after) x.entry.lane x.entry.deed.now x.clock =
     subst (λ (p : PartTables). IsBegun p (acting_of x.entry.acting) (acting_of x.entry.after) x.entry.lane x.entry.deed.now x.clock) (sym c.self.view_is) c.requires.begun in
     with_rest c.change_rows.new.lanes.tables c.change_rows.new.objects.tables c.change_calls.new.calls v.lanes.tables v.objects.tables e (v.entries + 1)
     c.change_rows.ensures.lanes c.change_rows.ensures.objects

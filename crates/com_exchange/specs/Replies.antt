@@ -1,28 +1,25 @@
 -- What is read in a reply. A failed call has no result, and the HRESULT stands last: so it is read first.
-use Rattle.std.specs.Prelude.{ℕ, ◌+◌, ◌-◌, List, [], ◌∷◌, drop, length, Option, Some, None, Result, Ok, Err}
-use Rattle.std.specs.Prelude.{nat_lt, if◌then◌else◌}
+use Rattle.std.specs.Prelude.{◌≡◌, ℕ, ◌+◌, ◌-◌, List, [], ◌∷◌, ◌++◌, drop, length, Option, Some, None, Result}
+use Rattle.std.specs.Prelude.{Ok, Err, nat_lt, if◌then◌else◌}
+use Rattle.std.specs.Global.{Vec}
 use Rattle.com_base.specs.declared.hresult.HResult.{HResult}
 use Rattle.com_base.specs.declared.value.Kind.{Kind}
-use Rattle.com_base.specs.declared.value.Value.{Value}
 use Rattle.com_wire.specs.Steps.{◌>>=◌}
 use Rattle.orpc.specs.declared.OrpcFault.{OrpcFault}
 use Rattle.orpc.specs.Headers.{reply_of}
 use Rattle.ndr_args.specs.declared.wire.Wire.{Wire}
 use Rattle.ndr_args.specs.declared.wire.ArgFault.{ArgFault}
 use Rattle.ndr_args.specs.declared.wire.TheConstants.ArgFault.{TRAILING}
-use Rattle.ndr_args.specs.Grammar.{gap}
+use Rattle.ndr_args.specs.Grammar.{gap, zeros, IsArgs}
 use Rattle.ndr_args.specs.Reading.{fault, short, u32_field, zeros_at, args_at}
 use Rattle.com_model.specs.Answers.{hresult, is_failure}
 use Rattle.com_model.specs.Lists.{first}
 use Rattle.com_exchange.specs.declared.receiving.RequestError.{RequestError}
 use Rattle.com_exchange.specs.declared.receiving.RequestError.TheVariants as error
+use Rattle.com_exchange.specs.declared.replies.Reply.{Reply}
+use Rattle.com_exchange.specs.declared.replies.ReplyError.{ReplyError}
+use Rattle.com_exchange.specs.declared.replies.ReplyError.TheVariants as unread
 use Rattle.com_exchange.specs.Received.{values_in, packets_in}
-
--- What a reply says: the HRESULT, the result, and the number of the packet that carries it.
-pub record Reply : Type 0 where
-  pub hr : HResult
-  pub value : Option Value
-  pub packet : Option ℕ
 
 -- The HRESULT is the last four bytes.
 unfoldable pub answer_at_end : List ℕ → Result HResult ArgFault
@@ -65,3 +62,28 @@ with_header kind rest (Ok u) = with_answer kind rest (answer_at_end rest)
 
 abbrev pub reply_in : Option Kind → List ℕ → Result Reply RequestError
 reply_in kind bytes = with_header kind (drop 8 bytes) (reply_of bytes)
+
+-- ---- what a reader answers
+
+-- An HRESULT is what reading gives; none, where reading gives a fault.
+abbrev pub SaysAnswer : Option HResult → Result HResult ArgFault → Type 0
+SaysAnswer (Some hr) read = read ≡ Ok hr
+SaysAnswer None read = (hr : HResult) → read ≡ Ok hr → ⊥
+
+-- The front of a reply spells values of these kinds, and has padding to a multiple of four behind them.
+pub record IsResult (kinds : List Kind) (front : List ℕ) (ws : List Wire) : Type 0 where
+  pub text : List ℕ
+  pub spelled : IsArgs kinds 0 ws text
+  pub padded : front ≡ text ++ zeros (gap (length text) 4)
+
+-- These values were read, or memory ran out.
+abbrev pub Finds : Result (Vec Wire) ReplyError → List Wire → Type 0
+Finds (Ok found) ws = found.items ≡ ws
+Finds (Err unread.Memory) ws = Unit {0}
+Finds (Err unread.NoReply) ws = ⊥
+
+-- A reply is what reading gives, and no reply a fault. Else memory ran out.
+abbrev pub TellsReply : Result Reply ReplyError → Result Reply RequestError → Type 0
+TellsReply (Ok reply) read = read ≡ Ok reply
+TellsReply (Err unread.Memory) read = Unit {0}
+TellsReply (Err unread.NoReply) read = (reply : Reply) → read ≡ Ok reply → ⊥
