@@ -17,7 +17,6 @@ no_rooms = record {
   objects = record { tables = record { makings = []; finaled = [] }; made = 0; gone = 0 };
   scene = record { seats = []; calls = 0; objects = 0 };
   taken = record { acting = None; packet = None; after = None; body = None; value = None };
-  left = None;
   owners = [];
 }
 

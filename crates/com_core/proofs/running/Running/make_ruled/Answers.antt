@@ -41,3 +41,6 @@ returns-clause-next c =
     let e = c.args.entry.now in
     turn_made c.make.result s v u e.lane c.args.step.now (ruled_turn e.deed) c.requires.turn c.requires.named c.requires.few.entries c.requires.core c.requires.above c.requires.below
     c.make.ensures.changed c.make.ensures.clock
+
+pub make-requires-clause-answer : goal.make-requires-clause-answer
+make-requires-clause-answer c = c.requires.turn.answer

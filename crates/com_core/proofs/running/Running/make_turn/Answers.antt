@@ -53,3 +53,6 @@ returns-clause-next c =
     subst (λ (rs : List RefValue). OnOk c.make.result (Changed s v.parts u.parts v.ledger u.ledger v.entered.counts u.entered.counts v.fallen.objects u.fallen.objects v.clock d (acting_of t.acting) c.args.outcome.now rs (sent_by t.doing.enclosed)))
     c.as_slice.ensures c.make.ensures.changed in
     turn_made c.make.result s v u c.args.lane c.args.outcome.now t c.requires.turn c.requires.named c.requires.few.entries c.requires.core c.requires.above c.requires.below changed c.make.ensures.clock
+
+pub make-requires-clause-answer : goal.make-requires-clause-answer
+make-requires-clause-answer c = c.requires.turn.answer
