@@ -16,6 +16,9 @@ impl Model for Postings {
     ghost also_owns = { λ _. ftrue };
 }
 
+// It owns nothing.
+unsafe impl Send for Postings {}
+
 impl Postings {
     /// No call was posted yet.
     pub fn none() -> Postings
