@@ -10,7 +10,7 @@ use Rattle.com_base.specs.declared.value.Value.TheVariants as value
 use Rattle.com_base.specs.Values.{as_kind, default_of, has_kind}
 use Rattle.com_model.specs.Values.{carried, if_live, sent_value, sent_values}
 use Rattle.com_exchange.specs.Messages.{CanTravel, TravelAs}
-use Rattle.com_exchange.proofs.Kinds.{chosen, default_kind, value_kind}
+use Rattle.com_exchange.proofs.OfKinds.{chosen, default_kind, value_kind}
 use Rattle.com_rules.specs.Packets.{AllConnected}
 
 all_head : (v : Value) (vs : List Value) → All CanTravel (v ∷ vs) → CanTravel v
