@@ -10,8 +10,8 @@ use crate::words::{push_failed, push_words_signed};
 use com_base::{ByteList, HResult, Memory, Value};
 use com_classes::Classes;
 use com_draw_names::{
-    Caller, push_called, push_given, push_hresult, push_hresult_behind, push_later,
-    push_method, push_object, push_passed, push_verb,
+    Caller, push_called, push_given, push_hresult, push_hresult_behind, push_later, push_method,
+    push_object, push_passed, push_verb,
 };
 use com_draw_words::push_word_and_number;
 use com_filter::{LEAST_DELAY_MS, Verdict};

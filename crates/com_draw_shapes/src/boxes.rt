@@ -1,5 +1,5 @@
 //! The boxes of homes, of what is open, and of the lives of objects.
-ghost use Rattle.std.specs.Prelude.{◌≡◌, ◌<◌, ◌≤◌, ◌^◌, ◌++◌, OnOk, length};
+ghost use Rattle.std.specs.Prelude.{◌≡◌, ◌+◌, ◌<◌, ◌≤◌, ◌^◌, ◌++◌, OnOk, length};
 ghost use Rattle.com_draw_state.specs.declared.board.TheConstants.{MOST_LANES};
 ghost use Rattle.com_draw_state.specs.Lanes.{lane_at};
 ghost use Rattle.com_draw_state.specs.Stacks.{innermost};

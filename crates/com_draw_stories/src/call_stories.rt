@@ -14,8 +14,8 @@ use crate::speakers::{Called, Entered, Speaker};
 use com_base::{ByteList, HResult, Memory, Value};
 use com_classes::Classes;
 use com_draw_names::{
-    Caller, push_failure, push_later, push_object, push_place, push_shown_called,
-    push_shown_given, push_shown_method, push_signed, push_verb,
+    Caller, push_failure, push_later, push_object, push_place, push_shown_called, push_shown_given,
+    push_shown_method, push_signed, push_verb,
 };
 use com_draw_words::{push_link, push_number, push_word_and_number};
 use com_filter::{LEAST_DELAY_MS, Verdict};

@@ -13,9 +13,7 @@ mod texts;
 mod widths;
 
 pub use arrows::{Arrow, ArrowKind, push_arrow};
-pub use boxes::{
-    BoxKind, BoxText, DrawnBox, Foot, NO_HUE, hue_of, push_box, push_touch,
-};
+pub use boxes::{BoxKind, BoxText, DrawnBox, Foot, NO_HUE, hue_of, push_box, push_touch};
 pub use com_base::Memory;
 pub use ends::{
     push_body, push_drawing_end, push_head, push_item_end, push_item_front, push_list_end,

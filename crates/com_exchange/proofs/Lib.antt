@@ -3,4 +3,4 @@ mod Sendings
 mod Previewing
 pub mod Receivings
 pub mod Ranging
-pub mod Kinds
+pub mod OfKinds

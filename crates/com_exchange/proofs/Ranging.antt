@@ -1,5 +1,5 @@
 -- The numbers of values that travel are in the ranges of their types, and what was written of them is read again.
-use Rattle.std.proofs.Common.{◌≡◌, ℕ, zero, suc, ◌+◌, ◌*◌, ◌^◌, ◌<◌, ◌≤◌, List, [], ◌∷◌, length, get_or, drop, map, Option, Some, None, Ok, refl, sym, ap, subst, ◌∙◌, arith, slice_get}
+use Rattle.std.proofs.Common.{◌≡◌, ℕ, zero, suc, ◌+◌, ◌*◌, ◌^◌, ◌<◌, ◌≤◌, List, [], ◌∷◌, length, get_or, drop, map, Option, Some, None, Ok, sym, ap, subst, ◌∙◌, arith, slice_get}
 use Rattle.std.specs.Prelude.{slice_index}
 use Rattle.std.proofs.Math.Seq.{drop-cons}
 use Rattle.std.proofs.Math.ListN.{drop_of_length-le}
@@ -10,14 +10,14 @@ use Rattle.com_base.specs.declared.value.Kind.{Kind}
 use Rattle.com_base.specs.declared.value.Kind.TheVariants as kind
 use Rattle.com_base.specs.declared.value.Value.{Value}
 use Rattle.com_base.specs.declared.value.Value.TheVariants as value
-use Rattle.com_base.specs.Guids.{IsBytes, IsGuid}
+use Rattle.com_base.specs.Guids.{IsBytes}
 use Rattle.ndr_args.specs.declared.wire.Wire.{Wire}
 use Rattle.ndr_args.specs.declared.wire.Wire.TheVariants as wire
 use Rattle.ndr_args.specs.Written.{CanSendAll, HasKind, IsInRange}
 use Rattle.ndr_args.proofs.Streams.{as_many}
 use Rattle.com_model.specs.Lists.{first, without_first}
 use Rattle.com_model.specs.Values.{carried, cause_guid, request_bytes, wires}
-use Rattle.com_exchange.specs.Messages.{CanTravel, TravelAs}
+use Rattle.com_exchange.specs.Messages.{TravelAs}
 use Rattle.com_exchange.specs.Received.{Sendable, packet_in_fields, reference_in_fields, request_in}
 use Rattle.com_exchange.specs.Wires.{packets_of, wire_of}
 use Rattle.com_exchange.proofs.Receivings.{again}

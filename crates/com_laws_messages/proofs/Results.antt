@@ -34,7 +34,7 @@ use Rattle.com_model.specs.Deeds.{packet_fields, fields_since, with_packets, rep
 use Rattle.com_laws_safety.proofs.Small.{same-number}
 use Rattle.com_laws_balance.proofs.Packets.{Grown, AllLive}
 use Rattle.com_laws_balance.proofs.Sendings.{end-grown}
-use Rattle.com_exchange.proofs.Kinds.{value_kind}
+use Rattle.com_exchange.proofs.OfKinds.{value_kind}
 use Rattle.com_exchange.specs.Received.{reference_in_fields, packet_in_fields}
 use Rattle.com_laws_messages.specs.Messages.{as_list}
 use Rattle.com_laws_messages.specs.Replies.{kinds_before}

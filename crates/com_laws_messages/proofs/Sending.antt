@@ -15,7 +15,7 @@ use Rattle.ndr_args.proofs.Streams.{as_many}
 use Rattle.com_model.specs.Lists.{first, without_first}
 use Rattle.com_model.specs.Values.{sent_values, wires, carried, result_list}
 use Rattle.com_laws_balance.proofs.Carries.{all-head, all-tail}
-use Rattle.com_exchange.proofs.Kinds.{OfKind, default_kind, value_kind}
+use Rattle.com_exchange.proofs.OfKinds.{OfKind, default_kind, value_kind}
 use Rattle.com_laws_messages.proofs.Walking.{CanCarry}
 
 abbrev pub AllOf : List Kind → List Value → Type 0

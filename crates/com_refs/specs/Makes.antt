@@ -1,5 +1,5 @@
 -- What making an object does.
-use Rattle.std.specs.Prelude.{◌≡◌, ℕ, ◌+◌, ◌<◌, ◌≤◌, Bool, true, false, not, ◌==◌, ◌&&◌, ◌||◌}
+use Rattle.std.specs.Prelude.{◌≡◌, ℕ, ◌+◌, ◌<◌, ◌≤◌, true, false, not, ◌==◌, ◌&&◌, ◌||◌}
 use Rattle.std.specs.Prelude.{if◌then◌else◌, List, length, Some}
 use Rattle.com_refs_books.specs.Changes.{changed, change, Makes}
 use Rattle.com_refs_books.specs.Counting.{count_if}

@@ -1,17 +1,16 @@
 -- The arguments of a call can travel: each is of its kind, and on the routes that marshal each reference is to a connected object.
-use Rattle.std.proofs.Common.{◌≡◌, ℕ, zero, suc, ◌<◌, ◌≤◌, Bool, true, false, cond, List, [], ◌∷◌, length, Some, None, sym, refl, arith}
+use Rattle.std.proofs.Common.{◌≡◌, ℕ, suc, Bool, true, false, cond, List, [], ◌∷◌, Some, None, refl, arith}
 use Rattle.std.proofs.lemmas.Grind.{common_steps}
 use Rattle.std.proofs.lemmas.Str.{IsUtf8-nil}
 use Rattle.std.specs.Prelude.{All}
 use Rattle.com_base.specs.declared.value.Kind.{Kind}
 use Rattle.com_base.specs.declared.value.Kind.TheVariants as kind
-use Rattle.com_base.specs.declared.value.RefValue.{RefValue}
 use Rattle.com_base.specs.declared.value.Value.{Value}
 use Rattle.com_base.specs.declared.value.Value.TheVariants as value
 use Rattle.com_base.specs.Values.{as_kind, default_of, has_kind}
 use Rattle.com_model.specs.Values.{carried, if_live, sent_value, sent_values}
 use Rattle.com_exchange.specs.Messages.{CanTravel, TravelAs}
-use Rattle.com_exchange.proofs.Kinds.{chosen, default_kind, value_kind}
+use Rattle.com_exchange.proofs.OfKinds.{chosen, default_kind, value_kind}
 use Rattle.com_rules.specs.Packets.{AllConnected}
 
 all_head : (v : Value) (vs : List Value) → All CanTravel (v ∷ vs) → CanTravel v

@@ -1,5 +1,5 @@
 -- The entry that the rules give a lane, by what is innermost in it.
-use Rattle.std.proofs.Common.{◌≡◌, ℕ, zero, suc, Bool, true, false, not, ◌&&◌, nat_le, List, [], ◌∷◌, Option, Some, None, is_some, is_none, slice_index_or, option_map, refl, ap, sym, ◌∙◌}
+use Rattle.std.proofs.Common.{◌≡◌, ℕ, zero, suc, Bool, true, false, not, ◌&&◌, nat_le, List, [], ◌∷◌, Option, Some, None, is_none, slice_index_or, option_map, refl, ap, sym, ◌∙◌}
 use Rattle.std.specs.Prelude.{if◌then◌else◌}
 use Rattle.com_refs_books.specs.Changes.{Books}
 use Rattle.com_model.specs.declared.deeds.Deed.{Deed}
@@ -17,7 +17,7 @@ use Rattle.com_model.specs.Rules.{admission, admits_next, admits_sta, answered, 
 use Rattle.com_model.specs.Sight.{Sight}
 use Rattle.com_model.specs.Tables.{LaneSort, Thread, Host, Pool, NoLane, lane_sort}
 use Rattle.com_model.specs.Waiting.{bound_reached, mark_of, not_asked}
-use Rattle.com_view.specs.Ruled.{answer_deed, asked_deed, direct_deed, has_served, home_call, idle_call, moved_deed, posted_deed, pump_deed, stirs_to, wait_deed}
+use Rattle.com_view.specs.Ruled.{answer_deed, asked_deed, direct_deed, has_served, home_call, idle_call, posted_deed, pump_deed, stirs_to, wait_deed}
 use Rattle.com_view.specs.Seen.{Seen, dying_seen, sight_by}
 use Rattle.com_view.proofs.ByTop.{again_is, answer_is, body_is_none, bound_of, no_script, nobody_pumps, own_is, pending_is, rest, retry_is, wait_is_none, word_is}
 

@@ -1,5 +1,5 @@
 -- Which rules can give a lane an entry, by what is innermost in it.
-use Rattle.std.proofs.Common.{◌≡◌, ℕ, zero, suc, Bool, true, false, not, ◌&&◌, ◌||◌, nat_le, List, [], ◌∷◌, Option, Some, None, is_some, is_none, slice_index_or, option_map, option_and_then, refl, ap, sym, ◌∙◌}
+use Rattle.std.proofs.Common.{◌≡◌, ℕ, Bool, true, false, not, ◌&&◌, ◌||◌, nat_le, List, [], ◌∷◌, Option, Some, None, is_some, is_none, slice_index_or, option_map, option_and_then, refl, ap, sym, ◌∙◌}
 use Rattle.std.specs.Prelude.{if◌then◌else◌}
 use Rattle.com_refs_books.specs.Changes.{Books}
 use Rattle.com_model.specs.declared.deeds.Deed.{Deed}
@@ -17,7 +17,7 @@ use Rattle.com_model.specs.Rules.{admission, admits_next, admits_sta, answered, 
 use Rattle.com_model.specs.Sight.{Sight}
 use Rattle.com_model.specs.Tables.{LaneSort, Thread, Host, Pool, NoLane, lane_sort}
 use Rattle.com_model.specs.Waiting.{bound_reached, mark_of, not_asked}
-use Rattle.com_view.specs.Nexts.{has_come, has_moved, has_posted, idle_has, pump_has, stirs, wait_has}
+use Rattle.com_view.specs.Nexts.{has_moved, has_posted, idle_has, pump_has, stirs, wait_has}
 use Rattle.com_view.specs.Seen.{Seen, bare, dying_seen, sight_by}
 
 -- ---- whether a chain of rules gives an entry

@@ -1,5 +1,5 @@
 //! The three bodies of a source.
-ghost use Rattle.std.specs.Prelude.{◌≡◌, ◌↔◌, ◌<◌, ◌++◌, ◌∷◌, [], List, IfSome, IfNone, IsTrue};
+ghost use Rattle.std.specs.Prelude.{◌≡◌, ◌↔◌, ◌+◌, ◌<◌, ◌++◌, ◌∷◌, [], List, IfSome, IfNone, IsTrue};
 ghost use Rattle.com_base.specs.declared.limits.TheConstants.{LINK_COUNT};
 ghost use Rattle.com_body.specs.declared.statements.Stmt.{Stmt};
 ghost use Rattle.com_body.specs.declared.statements.Stmt.TheVariants as stmt;

@@ -1,4 +1,4 @@
-use Rattle.std.proofs.Common.{◌≡◌, ◌-◌, ◌≤◌, length, arith}
+use Rattle.std.proofs.Common.{◌-◌, ◌≤◌, length, arith}
 use Rattle.com_refs_holders.specs.Tables.{books_of}
 use Rattle.com_refs_rows.proofs.Few.{few_packets}
 use Rattle.com_refs_rows.proofs.packing.pack.Goals as goal

@@ -1,4 +1,4 @@
-use Rattle.std.proofs.Common.{◌≡◌, ℕ, ◌+◌, ◌*◌, ◌<◌, ◌≤◌, ◌^◌, List, length, ap, ◌∙◌, arith}
+use Rattle.std.proofs.Common.{◌≡◌, ◌≤◌, List, length, ap, ◌∙◌, arith}
 use Rattle.com_base.specs.declared.value.RefValue.{RefValue}
 use Rattle.com_model.specs.Values.{carried}
 use Rattle.com_rules.proofs.Sized.{carried_few, travel_all, travel_size}

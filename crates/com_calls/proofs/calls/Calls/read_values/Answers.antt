@@ -1,4 +1,4 @@
-use Rattle.std.proofs.Common.{◌≡◌, ◌∙◌, sym, ap, List, [], Option}
+use Rattle.std.proofs.Common.{◌∙◌, sym, ap, List, [], Option}
 use Rattle.std.proofs.lemmas.Result.{IfOk-weaker}
 use Rattle.com_calls.specs.Rows.{RowView, row_at}
 use Rattle.com_calls.specs.Kept.{Kept}
