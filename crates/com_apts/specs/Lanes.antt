@@ -4,7 +4,9 @@ use Rattle.std.specs.Prelude.{true, false, not, ◌==◌, ◌&&◌, nat_le, nat_
 use Rattle.std.specs.Prelude.{slice_set}
 use Rattle.com_base.specs.declared.value.Mode.{Mode}
 use Rattle.com_base.specs.declared.value.Mode.TheVariants.{Sta, Mta}
+use Rattle.com_base.specs.declared.apartments.TheConstants.{FIRST_STA, HOST_STA, MTA}
 use Rattle.com_base.specs.declared.hresult.HResult.{HResult}
+use Rattle.com_base.specs.declared.hresult.TheConstants.HResult.{RPC_E_CHANGED_MODE, S_FALSE, S_OK}
 use Rattle.com_apts.specs.declared.Seat.{Seat}
 
 -- the home and the initialisation count of each thread's lane, in order from the lane 1; how many
@@ -37,12 +39,12 @@ abbrev pub seat_of : Lanes → ℕ → Seat
 seat_of t lane = seat_at t.seats lane
 
 -- the apartment that a lane lives in: a thread's lane where it was initialised, the lane after the
--- threads' in the host's apartment 2, and the pool's lanes in the multithreaded apartment 1
+-- threads' in the host's apartment, and the pool's lanes in the multithreaded one
 abbrev pub home_of : Lanes → ℕ → Option ℕ
 home_of t lane =
     if nat_le lane (length t.seats) then (seat_of t lane).home
-    else if lane == length t.seats + 1 then Some 2
-    else if nat_le lane (length t.seats + 1 + t.pool) then Some 1
+    else if lane == length t.seats + 1 then Some HOST_STA
+    else if nat_le lane (length t.seats + 1 + t.pool) then Some MTA
     else None
 
 -- how often a lane is initialised
@@ -51,7 +53,7 @@ count_of t lane = (seat_of t lane).count
 
 -- the apartment was made by a thread and has ended
 abbrev pub is_ended : Lanes → ℕ → Bool
-is_ended t apartment = nat_le 3 apartment && slice_index_or t.ended (apartment - 3) false
+is_ended t apartment = nat_le FIRST_STA apartment && slice_index_or t.ended (apartment - FIRST_STA) false
 
 -- how many of the first apartments have all ended
 abbrev pub ended_first : List Bool → ℕ
@@ -61,23 +63,23 @@ ended_first (is_over ∷ rest) = if is_over then ended_first rest + 1 else 0
 -- the oldest apartment made by a thread that has not ended, and the host's where there is none
 abbrev pub main_sta_of : Lanes → ℕ
 main_sta_of t =
-    if nat_lt (ended_first t.ended) (length t.ended) then ended_first t.ended + 3 else 2
+    if nat_lt (ended_first t.ended) (length t.ended) then ended_first t.ended + FIRST_STA else HOST_STA
 
 -- the mode of a home
 abbrev pub is_in_mode : Mode → ℕ → Bool
-is_in_mode Mta home = home == 1
-is_in_mode Sta home = not (home == 1)
+is_in_mode Mta home = home == MTA
+is_in_mode Sta home = not (home == MTA)
 
 -- an `init` of a lane of this home succeeds
 abbrev pub init_succeeds : Option ℕ → Mode → Bool
 init_succeeds None mode = true
 init_succeeds (Some home) mode = is_in_mode mode home
 
--- what `init` answers a lane of this home: S_OK (0), S_FALSE (1) or RPC_E_CHANGED_MODE (80010106)
+-- what `init` answers a lane of this home
 abbrev pub init_answer : Option ℕ → Mode → HResult
-init_answer None mode = record { 0 = 0 }
+init_answer None mode = S_OK
 init_answer (Some home) mode =
-    if is_in_mode mode home then record { 0 = 1 } else record { 0 = 0x80010106 }
+    if is_in_mode mode home then S_FALSE else RPC_E_CHANGED_MODE
 
 -- the lane has this instead
 abbrev pub with_seat : Lanes → ℕ → Seat → Lanes
@@ -85,8 +87,8 @@ with_seat t lane seat = record t { seats = slice_set t.seats (lane - 1) seat }
 
 -- the home that an `init` gives a lane that has none
 abbrev pub home_in : Mode → List Bool → ℕ
-home_in Mta ended = 1
-home_in Sta ended = length ended + 3
+home_in Mta ended = MTA
+home_in Sta ended = length ended + FIRST_STA
 
 -- the apartments made by threads after that `init`
 abbrev pub ended_in : Mode → List Bool → List Bool
@@ -115,7 +117,7 @@ after_init t lane mode = after_init_at (seat_of t lane).home mode t lane
 -- the single-threaded apartment of a thread, where this is its home
 abbrev pub sta_of : Option ℕ → Option ℕ
 sta_of None = None
-sta_of (Some home) = if nat_le 3 home then Some home else None
+sta_of (Some home) = if nat_le FIRST_STA home then Some home else None
 
 -- the apartment that an `uninit` of a thread's lane ends
 abbrev pub ended_by_uninit : Lanes → ℕ → Option ℕ
@@ -124,7 +126,7 @@ ended_by_uninit t lane = if count_of t lane == 1 then sta_of (seat_of t lane).ho
 -- this apartment has ended
 abbrev pub with_ended : Option ℕ → List Bool → List Bool
 with_ended None ended = ended
-with_ended (Some sta) ended = slice_set ended (sta - 3) true
+with_ended (Some sta) ended = slice_set ended (sta - FIRST_STA) true
 
 -- the lanes after an `uninit` of a thread's lane
 abbrev pub after_uninit : Lanes → ℕ → Lanes

@@ -3,6 +3,7 @@ use Rattle.std.specs.Prelude.{ℕ, Bool, true, false, ◌==◌, nat_le, Option, 
 use Rattle.std.specs.Prelude.{if◌then◌else◌}
 use Rattle.com_base.specs.declared.guid.Guid.{Guid}
 use Rattle.com_base.specs.declared.hresult.HResult.{HResult}
+use Rattle.com_base.specs.declared.hresult.TheConstants.HResult.{E_NOINTERFACE, REGDB_E_CLASSNOTREG}
 use Rattle.com_classes.specs.declared.classes.Class.{Class}
 use Rattle.com_classes.specs.declared.classes.ThreadingModel.{ThreadingModel}
 use Rattle.com_classes.specs.declared.classes.ThreadingModel.TheVariants as model
@@ -32,7 +33,7 @@ is_agile other = false
 
 -- The object of a class that is found: E_NOINTERFACE where the IID names no interface of the class.
 abbrev pub placed_in : Class → ℕ → Option ℕ → Creator → Result Placed HResult
-placed_in c class None creator = Err (record { 0 = 0x80004002 })
+placed_in c class None creator = Err E_NOINTERFACE
 placed_in c class (Some iface) creator =
     if class_has c iface
     then Ok (record {
@@ -41,15 +42,15 @@ placed_in c class (Some iface) creator =
       owner = owner_for c.model creator;
       agile = is_agile c.model;
     })
-    else Err (record { 0 = 0x80004002 })
+    else Err E_NOINTERFACE
 
 -- The new object that a CLSID and an IID ask for: REGDB_E_CLASSNOTREG where no class has the CLSID.
 abbrev pub placed : Tables → Guid → Guid → Creator → Result Placed HResult
 placed t clsid iid creator =
     elim (find_class t clsid) [
-      | None ↦ Err (record { 0 = 0x80040154 })
+      | None ↦ Err REGDB_E_CLASSNOTREG
       | Some class ↦ elim (class_at t class) [
-        | None ↦ Err (record { 0 = 0x80040154 })
+        | None ↦ Err REGDB_E_CLASSNOTREG
         | Some c ↦ placed_in c class (find_interface t iid) creator
       ]
     ]

@@ -4,6 +4,7 @@ use Rattle.std.specs.Prelude.{Bool, true, false, ◌==◌, nat_lt, if◌then◌e
 use Rattle.std.specs.Str.{bytes_eq, str_to_ascii_lowercase}
 use Rattle.com_base.specs.declared.limits.TheConstants.{METHOD_LIMIT}
 use Rattle.com_base.specs.declared.hresult.HResult.{HResult}
+use Rattle.com_base.specs.declared.hresult.TheConstants.HResult.{DISP_E_BADPARAMCOUNT, DISP_E_MEMBERNOTFOUND, DISP_E_TYPEMISMATCH, DISP_E_UNKNOWNNAME}
 use Rattle.com_base.specs.declared.value.Kind.{Kind}
 use Rattle.com_base.specs.declared.value.Kind.TheVariants as kinds
 use Rattle.com_classes.specs.declared.interfaces.Interface.{Interface}
@@ -23,16 +24,16 @@ use Rattle.com_dispatch.specs.Coercing.{coerced_on}
 -- ---- the refusals
 
 abbrev pub unknown_name : HResult
-unknown_name = record { 0 = 0x80020006 }
+unknown_name = DISP_E_UNKNOWNNAME
 
 abbrev pub member_not_found : HResult
-member_not_found = record { 0 = 0x80020003 }
+member_not_found = DISP_E_MEMBERNOTFOUND
 
 abbrev pub bad_parameter_count : HResult
-bad_parameter_count = record { 0 = 0x8002000e }
+bad_parameter_count = DISP_E_BADPARAMCOUNT
 
 abbrev pub type_mismatch : HResult
-type_mismatch = record { 0 = 0x80020005 }
+type_mismatch = DISP_E_TYPEMISMATCH
 
 -- ---- the member
 
