@@ -1,6 +1,7 @@
 //! Classes and natives as lines, and the statements of bodies and scripts.
 
 ghost use Rattle.std.specs.Prelude.{◌≡◌, ◌≤◌, ◌++◌, ◌∷◌, [], OnOk, All, codes, length, map};
+ghost use Rattle.com_base.specs.declared.limits.TheConstants.{CLASS_LIMIT};
 ghost use Rattle.com_body.specs.declared.frame.Native.TheVariants as natives;
 ghost use Rattle.com_print.specs.Ranges.{IsGuid};
 ghost use Rattle.com_print.specs.Spelled.{plain, words_text, more_text, line_text, text_of};
@@ -151,7 +152,7 @@ pub(crate) fn push_classes(
     names: &Names,
     classes: &Classes,
 ) -> Result<(), Memory>
-    requires { length classes.now.classes ≤ 64 }
+    requires { length classes.now.classes ≤ CLASS_LIMIT }
     ensures ok { OnOk result (out.new ≡ out.old ++ text_of (classes_lines names.now classes.now.classes)) }
     ensures fits { OnOk result (All FitsClass classes.now.classes) }
 {

@@ -1,6 +1,7 @@
 //! The names that a scenario declares, and the tables of its interfaces.
 
 ghost use Rattle.std.specs.Prelude.{◌≡◌, ◌≤◌, IfOk, length, map};
+ghost use Rattle.com_base.specs.declared.limits.TheConstants.{CLASS_LIMIT, INTERFACE_LIMIT};
 ghost use Rattle.com_print_scenario.specs.Printed.{filter_name, filter_names, names_in};
 
 use com_base::{ByteList, Kind, Memory, Rows};
@@ -54,7 +55,7 @@ fn copy_interface(alloc: Global, interface: &Interface) -> Result<Interface, Mem
 // The interfaces, the built-in ones first.
 #[tactic(auto, using(crate::proofs::Lists::interface_more, crate::proofs::Lists::interface_there, crate::proofs::Lists::interfaces_end))]
 fn tables(alloc: Global, classes: &Classes) -> Result<Rows<Interface>, Memory>
-    requires { length classes.now.interfaces ≤ 64 }
+    requires { length classes.now.interfaces ≤ INTERFACE_LIMIT }
     ensures { IfOk result (λ copies. copies ≡ classes.now.interfaces) }
 {
     let mut copies = Vec::new(alloc);
@@ -80,7 +81,7 @@ fn interface_names(alloc: Global, tables: &[Interface]) -> Result<Rows<ByteList>
 // The names of the classes by number, from 1. The only error is want of memory.
 #[tactic(auto, using(crate::proofs::Lists::class_more, crate::proofs::Lists::class_there, crate::proofs::Lists::classes_end))]
 fn class_names(alloc: Global, classes: &Classes) -> Result<Rows<ByteList>, Memory>
-    requires { length classes.now.classes ≤ 64 }
+    requires { length classes.now.classes ≤ CLASS_LIMIT }
     ensures { IfOk result (λ names. names ≡ map (λ c. c.name) classes.now.classes) }
 {
     let mut names = Vec::new(alloc);
@@ -117,8 +118,8 @@ fn filter_names(alloc: Global, filters: &[Filter]) -> Result<Rows<ByteList>, Mem
 
 // The names of a scenario. It keeps no filters' names, so these are `F1`, `F2` and on.
 pub(crate) fn names_of(alloc: Global, scenario: &Scenario) -> Result<Names, Memory>
-    requires interfaces { length scenario.now.classes.interfaces ≤ 64 }
-    requires classes { length scenario.now.classes.classes ≤ 64 }
+    requires interfaces { length scenario.now.classes.interfaces ≤ INTERFACE_LIMIT }
+    requires classes { length scenario.now.classes.classes ≤ CLASS_LIMIT }
     ensures { IfOk result (λ names. names ≡ names_in scenario.now) }
 {
     let tables = tables(alloc, &scenario.classes)?;

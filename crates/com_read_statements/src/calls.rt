@@ -2,6 +2,7 @@
 
 ghost use Rattle.std.specs.Prelude.{◌≡◌, ◌<◌, ◌^◌, [], IfOk, IfSome, All, length};
 ghost use Rattle.std.specs.Option.{option_copied};
+ghost use Rattle.com_base.specs.declared.limits.TheConstants.{SLOT_COUNT};
 ghost use Rattle.com_body.specs.Bodies.{IsArg, IsDestination, IsInRange};
 ghost use Rattle.com_read_operands.specs.Operands.{IsOperand};
 ghost use Rattle.com_read_operands.specs.Reading.{Gives};
@@ -237,7 +238,7 @@ fn call_of(
     method: &Method,
     line: &[Word],
 ) -> Result<Stmt, ScenarioError>
-    requires { slot < 8 }
+    requires { slot < SLOT_COUNT }
     ensures value { Gives (λ s. s) result (call_of slot number method.now line.now) }
     ensures range { IfOk result IsInRange }
 {

@@ -1,6 +1,7 @@
 -- What is true of the tables at all times.
 use Rattle.std.specs.Prelude.{◌≡◌, ℕ, ◌+◌, ◌-◌, ◌*◌, ◌<◌, ◌≤◌, Bool, true, false, ◌==◌, ◌&&◌, if◌then◌else◌}
 use Rattle.std.specs.Prelude.{List, length, sum_by, Some}
+use Rattle.com_base.specs.declared.limits.TheConstants.{PUBLIC_REFERENCES}
 use Rattle.com_base.specs.declared.value.RefValue.{RefValue}
 use Rattle.com_keyed.specs.Indices.{KeyList}
 use Rattle.com_packets.specs.declared.Packet as P
@@ -31,9 +32,9 @@ pub record Known (t : Tables) : Type 0 where
   pub cookies : (n : ℕ) (r : RefValue) → held_in t.cookies n ≡ Some r
       → has_counter t.counters r.object r.iface ≡ true
 
--- No number is higher than the references that were given, of which each call gives five at most.
+-- No number is higher than the references that were given, of which each call gives `PUBLIC_REFERENCES` at most.
 pub record Bounded (t : Tables) : Type 0 where
-  pub sums : (o : ℕ) → sum_of t.counters o ≤ 5 * t.issued
+  pub sums : (o : ℕ) → sum_of t.counters o ≤ PUBLIC_REFERENCES * t.issued
   pub locals : (o : ℕ) → locals_of o t.proxies ≤ t.issued
   pub direct : (o : ℕ) → direct_in t o ≤ t.issued
   pub packets : length t.packets ≤ t.issued

@@ -7,7 +7,7 @@ ghost use Rattle.com_proxy.specs.Rows.{public_of, local_of, IsFree};
 ghost use Rattle.com_refs_holders.specs.Stands.{Gave, Released};
 ghost use Rattle.com_refs_holders.specs.Steps.{minted, minted_counters, minted_rows};
 
-use com_base::{MarshalMode, RefValue};
+use com_base::{MarshalMode, PUBLIC_REFERENCES, RefValue};
 use com_proxy::{Proxies, Split};
 use com_stub::Stubs;
 
@@ -38,7 +38,7 @@ pub(crate) fn mint(
 ) -> u32
     requires connected { is_connected stubs.old.stubs held.object ≡ true }
     requires known { has_counter stubs.old.counters held.object held.iface ≡ true }
-    requires fits { sum_of stubs.old.counters held.object + 5 < 2 ^ 64 }
+    requires fits { sum_of stubs.old.counters held.object + PUBLIC_REFERENCES < 2 ^ 64 }
     requires public_fits { public_of proxies.old.rows apartment held.object held.iface < 2 ^ 32 }
     ensures result { result ≡ minted is_owned mode
         (public_of proxies.old.rows apartment held.object held.iface) }
@@ -57,11 +57,11 @@ pub(crate) fn mint(
         MarshalMode::Weak => issue(stubs, held, 0),
         MarshalMode::Normal => {
             if is_owned {
-                return issue(stubs, held, 5);
+                return issue(stubs, held, PUBLIC_REFERENCES);
             }
             match proxies.split(apartment, held.object, held.iface) {
                 Split::Moved(half) => half as u32,
-                Split::New => issue(stubs, held, 5),
+                Split::New => issue(stubs, held, PUBLIC_REFERENCES),
             }
         }
     }

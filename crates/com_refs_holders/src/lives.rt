@@ -14,13 +14,13 @@ use crate::balance::issue;
 use crate::objects::{gain_direct, owns};
 use crate::reserved::{enroll, gain};
 use crate::{Holders, MOST_ISSUED, ObjectRow};
-use com_base::RefValue;
+use com_base::{PUBLIC_REFERENCES, RefValue};
 use com_keyed::Chains;
 use com_proxy::Proxies;
 use com_stub::{MOST_INTERFACES, Stubs};
 
 // Gives an apartment the first place of a new object: a direct one where the apartment owns it, else one of the
-// apartment's proxy with 5 new public references, for which there is room.
+// apartment's proxy with `PUBLIC_REFERENCES` new public references, for which there is room.
 fn give_first_place(
     objects: &mut [ObjectRow],
     proxies: &mut Proxies,
@@ -33,14 +33,14 @@ fn give_first_place(
     requires room { 0 < proxies.old.spare }
     requires direct_fits { (object_in objects.old held.object).direct + 1 < 2 ^ 64 }
     requires local_fits { local_of proxies.old.rows apartment held.object held.iface + 1 < 2 ^ 64 }
-    requires public_fits { public_of proxies.old.rows apartment held.object held.iface + 5 < 2 ^ 64 }
-    requires sum_fits { sum_of stubs.old.counters held.object + 5 < 2 ^ 64 }
+    requires public_fits { public_of proxies.old.rows apartment held.object held.iface + PUBLIC_REFERENCES < 2 ^ 64 }
+    requires sum_fits { sum_of stubs.old.counters held.object + PUBLIC_REFERENCES < 2 ^ 64 }
     ensures objects { objects.new ≡ (if owns_of objects.old held.object apartment
         then direct_more held.object objects.old else objects.old) }
     ensures proxies { proxies.new.rows ≡ (if owns_of objects.old held.object apartment then proxies.old.rows
-        else changed_row (gaining 5) apartment held.object held.iface proxies.old.rows) }
+        else changed_row (gaining PUBLIC_REFERENCES) apartment held.object held.iface proxies.old.rows) }
     ensures counters { stubs.new.counters ≡ (if owns_of objects.old held.object apartment
-        then stubs.old.counters else changed_counter (more 5) held.object held.iface stubs.old.counters) }
+        then stubs.old.counters else changed_counter (more PUBLIC_REFERENCES) held.object held.iface stubs.old.counters) }
     ensures stubs { stubs.new.stubs ≡ stubs.old.stubs }
     ensures proxy_room { proxies.old.spare ≤ proxies.new.spare + 1 }
     ensures stub_room { stubs.new.spare ≡ stubs.old.spare }
@@ -49,8 +49,8 @@ fn give_first_place(
         gain_direct(objects, held.object);
         return;
     }
-    gain(proxies, apartment, held, 5);
-    issue(stubs, held, 5);
+    gain(proxies, apartment, held, PUBLIC_REFERENCES);
+    issue(stubs, held, PUBLIC_REFERENCES);
 }
 
 // Disconnects all objects of an owner.
@@ -73,7 +73,7 @@ impl Holders {
     /// A new object, the next by its number from 1 on, with its first place in an apartment. It has an owner,
     /// 0 where it is agile, and a connected stub with the interfaces of the set, of which there are at most `MOST_INTERFACES`.
     /// Where the apartment owns the object, the place is a direct one. Else it is one of the apartment's proxy,
-    /// by an interface of the set, with 5 new public references. Room for a call was made before. Source:
+    /// by an interface of the set, with `PUBLIC_REFERENCES` new public references. Room for a call was made before. Source:
     /// Essential COM, chapter 5, on stubs and proxies; MS-DCOM 3.2.4.4.
     pub fn make_object(&mut self, owner: u32, agile: bool, set: &[u16], apartment: u32, iface: u16)
         requires small { length set.now ≤ MOST_INTERFACES }

@@ -12,7 +12,7 @@ use crate::balance::{issue, let_go};
 use crate::objects::{gain_direct, lose_direct};
 use crate::reserved::gain;
 use crate::{Holders, HoldersError, MOST_ISSUED, Memory};
-use com_base::RefValue;
+use com_base::{PUBLIC_REFERENCES, RefValue};
 
 impl Holders {
     // One direct place more of an object that was made: an apartment that owns it holds one reference more.
@@ -46,7 +46,7 @@ impl Holders {
         self.issued += 1;
     }
 
-    // One place more of an apartment that does not own the connected object, with 5 new public references,
+    // One place more of an apartment that does not own the connected object, with `PUBLIC_REFERENCES` new public references,
     // which its stub counts from now on. Source: MS-DCOM 3.2.4.4.
     fn issue_elsewhere(&mut self, apartment: u32, held: RefValue)
         requires elsewhere { owns_of self.old.objects held.object apartment ≡ false }
@@ -55,14 +55,14 @@ impl Holders {
         requires few { self.old.issued < MOST_ISSUED }
         requires room { 0 < self.old.spare }
         ensures books { books_of self.new
-            ≡ changed (books_of self.old) (ToProxy apartment held.object held.iface 5) }
+            ≡ changed (books_of self.old) (ToProxy apartment held.object held.iface PUBLIC_REFERENCES) }
         ensures places { OneMore self.old self.new apartment held.object false }
         ensures offers { SameSets self.old self.new }
         ensures issued { self.new.issued ≡ self.old.issued + 1 }
         ensures spare { self.new.spare + 1 ≡ self.old.spare }
     {
-        gain(&mut self.proxies, apartment, held, 5);
-        issue(&mut self.stubs, held, 5);
+        gain(&mut self.proxies, apartment, held, PUBLIC_REFERENCES);
+        issue(&mut self.stubs, held, PUBLIC_REFERENCES);
         self.issued += 1;
         self.room -= 1;
     }
@@ -85,7 +85,7 @@ impl Holders {
         self.room -= 1;
     }
 
-    /// One place more of an apartment that does not own the connected object, with 5 new public references.
+    /// One place more of an apartment that does not own the connected object, with `PUBLIC_REFERENCES` new public references.
     /// Room is made first. The only error is want of memory, and then nothing changed; it does not come where
     /// there is room for a call.
     pub fn take_new(&mut self, apartment: u32, held: RefValue) -> Result<(), Memory>
@@ -94,7 +94,7 @@ impl Holders {
         requires known { offers self.old held.object held.iface ≡ true }
         requires few { self.old.issued < MOST_ISSUED }
         ensures books { OnOk result (books_of self.new
-            ≡ changed (books_of self.old) (ToProxy apartment held.object held.iface 5)) }
+            ≡ changed (books_of self.old) (ToProxy apartment held.object held.iface PUBLIC_REFERENCES)) }
         ensures places { OnOk result (OneMore self.old self.new apartment held.object false) }
         ensures offers { SameSets self.old self.new }
         ensures issued { OnOk result (self.new.issued ≡ self.old.issued + 1) }

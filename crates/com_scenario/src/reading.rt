@@ -50,7 +50,7 @@ fn add_class(classes: &mut Classes, class: Class) -> Result<(), Memory>
 
 // The tables of an outline's interfaces and classes, which keep the forms and the limits of the language.
 fn tables(alloc: Global, interfaces: Rows<Interface>, list: Rows<Class>) -> Result<Classes, Memory>
-    requires interfaces { FormedInterfaces (built_in_interfaces ++ drop 4 interfaces) }
+    requires interfaces { FormedInterfaces (built_in_interfaces ++ drop BUILT_IN_COUNT interfaces) }
     requires few { length list ≤ CLASS_LIMIT }
     requires distinct { Distinct same_class list }
     ensures { IfOk result (λ t. t ≡ tables_of interfaces list) }

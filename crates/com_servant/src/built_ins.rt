@@ -3,6 +3,7 @@ ghost use Rattle.std.specs.Prelude.{◌≡◌, ◌<◌, ◌%◌, ◌^◌, Some, 
 ghost use Rattle.std.specs.Int.{w64, cast_unsigned};
 ghost use Rattle.std.specs.Ordering.{int_eq};
 ghost use Rattle.com_base.specs.declared.value.Value.TheVariants as value;
+ghost use Rattle.com_base.specs.declared.limits.TheConstants.{REGISTER_COUNT};
 ghost use Rattle.com_body.specs.declared.actions.Action.TheVariants as action;
 ghost use Rattle.com_body.specs.declared.frame.Native.TheVariants as native;
 ghost use Rattle.com_body.specs.Frames.{with_register};
@@ -53,7 +54,7 @@ fn at_place(frame: Frame, cells: Cells, action: Action, place: u32) -> Outcome
 
 // Leaving with S_OK and the value of a register.
 fn leave_with(frame: Frame, cells: Cells, register: u8, place: u32) -> Result<Outcome, Memory>
-    requires { register < 16 }
+    requires { register < REGISTER_COUNT }
     ensures { IfOk result (λ outcome. outcome ≡ record {
       frame = record frame { place = place };
       cells = cells;

@@ -29,11 +29,11 @@ fn is_row(servants: &Vec<Box<dyn Servant + Send>>) -> bool
         && is_kind(latch, Native::Latch)
 }
 
-/// Whether a crew has 25 rows, each with one servant of each kind in the order of the kinds. True exactly
+/// Whether a crew has `ROWS` rows, each with one servant of each kind in the order of the kinds. True exactly
 /// where it has. It takes no memory, and asks each servant for its kind alone.
 pub fn is_manned(crew: &Vec<Vec<Box<dyn Servant + Send>>>) -> bool
     ensures { IsTrue result
-        ↔ ((vec_len crew.now ≡ 25) × All (λ servants. map kind_of servants.items ≡ row) crew.now.items) }
+        ↔ ((vec_len crew.now ≡ ROWS) × All (λ servants. map kind_of servants.items ≡ row) crew.now.items) }
 {
     if crew.len() != ROWS {
         return false;
