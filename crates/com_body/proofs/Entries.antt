@@ -1,7 +1,8 @@
 -- The registers and slots with which a frame begins.
 use Rattle.std.proofs.Common.{◌≡◌, ℕ, zero, suc, ◌+◌, ◌-◌, ◌<◌, ◌≤◌, List, [], ◌∷◌, ◌++◌, length, take, set, replicate, get_or, Option, None, ◌⊎◌, inl, inr, refl, sym, ap, ◌∙◌, arith, append_assoc, length-append}
-use Rattle.std.proofs.lemmas.List.{take_more, append-nil, length-set, length-replicate}
-use Rattle.com_base.specs.declared.limits.TheConstants.{REGISTER_COUNT, SLOT_COUNT}
+use Rattle.std.proofs.Math.Seq.{get_or-append_seam, set-append_seam}
+use Rattle.std.proofs.lemmas.List.{take_more, append-nil, length-set, length-replicate, get_or_append_left, get_or-append_right}
+use Rattle.com_base.specs.declared.limits.TheConstants.{ANSWER_REGISTER, REGISTER_COUNT, SLOT_COUNT}
 use Rattle.com_base.specs.declared.value.RefValue.{RefValue}
 use Rattle.com_base.specs.declared.value.Value.{Value}
 use Rattle.com_base.specs.declared.value.Value.TheVariants as value
@@ -53,6 +54,12 @@ replicate-more : {A : Type 0} (k : ℕ) (x : A) → replicate k x ++ x ∷ [] �
 replicate-more zero x = refl
 replicate-more (suc k) x = ap (λ l. x ∷ l) (replicate-more k x)
 
+-- a list of the same value alone
+get_or-replicate_any : {A : Type 0} (k : ℕ) (x : A) (n : ℕ) → get_or (replicate k x) n x ≡ x
+get_or-replicate_any zero x n = refl
+get_or-replicate_any (suc k) x zero = refl
+get_or-replicate_any (suc k) x (suc n) = get_or-replicate_any k x n
+
 -- the slots with which a frame begins are all that there are
 pub entered_count : (values : List Value) → length values ≤ 4 → length (entered values).slots ≡ SLOT_COUNT
 entered_count values few =
@@ -63,20 +70,36 @@ entered_count values few =
     omega (arith, held, both, more, few)
 
 -- one more Int 0 among those that were set changes no register
-pub padded_more : (xs : List Value) → length xs < REGISTER_COUNT → padded (xs ++ no_number ∷ []) ≡ padded xs
-padded_more xs within =
+pub padded_more : (xs : List Value) (a : Value) → length xs < ANSWER_REGISTER → padded (xs ++ no_number ∷ []) a ≡ padded xs a
+padded_more xs a within =
     let count : length (xs ++ no_number ∷ []) ≡ length xs + 1 = length-append xs (no_number ∷ []) in
-    let more : suc (REGISTER_COUNT - (length xs + 1)) ≡ REGISTER_COUNT - length xs = omega (arith, within) in
-    ap (λ n. (xs ++ no_number ∷ []) ++ replicate (REGISTER_COUNT - n) no_number) count ∙
-    append_assoc xs (no_number ∷ []) (replicate (REGISTER_COUNT - (length xs + 1)) no_number) ∙
-    ap (λ n. xs ++ replicate n no_number) more
+    let more : suc (ANSWER_REGISTER - (length xs + 1)) ≡ ANSWER_REGISTER - length xs = omega (arith, within) in
+    ap (λ l. l ++ a ∷ []) (
+    ap (λ n. (xs ++ no_number ∷ []) ++ replicate (ANSWER_REGISTER - n) no_number) count ∙
+    append_assoc xs (no_number ∷ []) (replicate (ANSWER_REGISTER - (length xs + 1)) no_number) ∙
+    ap (λ n. xs ++ replicate n no_number) more)
 
--- the registers that were set, and those behind them, are all that there are
-pub padded_length : (xs : List Value) → length xs ≤ REGISTER_COUNT → length (padded xs) ≡ REGISTER_COUNT
-padded_length xs within =
-    let both : length (padded xs) ≡ length xs + length (replicate (REGISTER_COUNT - length xs) no_number) = length-append xs (replicate (REGISTER_COUNT - length xs) no_number) in
-    let more : length (replicate (REGISTER_COUNT - length xs) no_number) ≡ REGISTER_COUNT - length xs = length-replicate (REGISTER_COUNT - length xs) no_number in
+-- the registers before the answer's
+own_length : (xs : List Value) → length xs ≤ ANSWER_REGISTER → length (xs ++ replicate (ANSWER_REGISTER - length xs) no_number) ≡ ANSWER_REGISTER
+own_length xs within =
+    let both : length (xs ++ replicate (ANSWER_REGISTER - length xs) no_number) ≡ length xs + length (replicate (ANSWER_REGISTER - length xs) no_number) = length-append xs (replicate (ANSWER_REGISTER - length xs) no_number) in
+    let more : length (replicate (ANSWER_REGISTER - length xs) no_number) ≡ ANSWER_REGISTER - length xs = length-replicate (ANSWER_REGISTER - length xs) no_number in
     omega (arith, both, more, within)
+
+-- the registers that were set, those behind them, and the answer's are all that there are
+pub padded_length : (xs : List Value) (a : Value) → length xs ≤ ANSWER_REGISTER → length (padded xs a) ≡ REGISTER_COUNT
+padded_length xs a within =
+    let own = own_length xs within in
+    let both : length (padded xs a) ≡ length (xs ++ replicate (ANSWER_REGISTER - length xs) no_number) + 1 =
+    length-append (xs ++ replicate (ANSWER_REGISTER - length xs) no_number) (a ∷ []) in
+    omega (arith, both, own)
+
+-- the registers of a frame at Enter, where no answer has come
+pub padded_entered : (xs : List Value) → length xs ≤ 4 → padded xs no_number ≡ xs ++ replicate (REGISTER_COUNT - length xs) no_number
+padded_entered xs few =
+    let more : suc (ANSWER_REGISTER - length xs) ≡ REGISTER_COUNT - length xs = omega (arith, few) in
+    append_assoc xs (replicate (ANSWER_REGISTER - length xs) no_number) (no_number ∷ []) ∙
+    ap (λ l. xs ++ l) (replicate-more (ANSWER_REGISTER - length xs) no_number ∙ ap (λ n. replicate n no_number) more)
 
 -- a write changes no number of places
 pub set_count : (slots : List (Option RefValue)) (n : ℕ) (held : Option RefValue) → length (set slots n held) ≡ length slots
@@ -88,10 +111,45 @@ set-before [] ys n x within = absurd (omega (arith, within))
 set-before (y ∷ xs) ys zero x within = refl
 set-before (y ∷ xs) ys (suc n) x within = ap (λ l. y ∷ l) (set-before xs ys n x (omega (arith, within)))
 
-pub padded_set : (xs : List Value) (n : ℕ) (x : Value) → n < length xs → padded (set xs n x) ≡ set (padded xs) n x
-padded_set xs n x within =
-    ap (λ k. set xs n x ++ replicate (REGISTER_COUNT - k) no_number) (length-set xs n x) ∙
-    sym (set-before xs (replicate (REGISTER_COUNT - length xs) no_number) n x within)
+pub padded_set : (xs : List Value) (a : Value) (n : ℕ) (x : Value) → n < length xs → padded (set xs n x) a ≡ set (padded xs a) n x
+padded_set xs a n x within =
+    let own : List Value = xs ++ replicate (ANSWER_REGISTER - length xs) no_number in
+    let both : length own ≡ length xs + length (replicate (ANSWER_REGISTER - length xs) no_number) = length-append xs (replicate (ANSWER_REGISTER - length xs) no_number) in
+    let inside : n < length own = omega (arith, both, within) in
+    ap (λ l. l ++ a ∷ []) (
+    ap (λ k. set xs n x ++ replicate (ANSWER_REGISTER - k) no_number) (length-set xs n x) ∙
+    sym (set-before xs (replicate (ANSWER_REGISTER - length xs) no_number) n x within)) ∙
+    sym (set-before own (a ∷ []) n x inside)
+
+-- a write to the answer's register
+pub padded_answered : (xs : List Value) (a x : Value) → length xs ≤ ANSWER_REGISTER → padded xs x ≡ set (padded xs a) ANSWER_REGISTER x
+padded_answered xs a x within =
+    let own : List Value = xs ++ replicate (ANSWER_REGISTER - length xs) no_number in
+    let count : length own ≡ ANSWER_REGISTER = own_length xs within in
+    sym (ap (λ n. set (own ++ a ∷ []) n x) (sym count) ∙ set-append_seam own a [] x)
+
+-- what the registers hold: the answer's, each that was set, and each other one
+pub read_answer : (xs : List Value) (a : Value) → length xs ≤ ANSWER_REGISTER → get_or (padded xs a) ANSWER_REGISTER no_number ≡ a
+read_answer xs a within =
+    let own : List Value = xs ++ replicate (ANSWER_REGISTER - length xs) no_number in
+    let count : length own ≡ ANSWER_REGISTER = own_length xs within in
+    ap (λ n. get_or (own ++ a ∷ []) n no_number) (sym count) ∙ get_or-append_seam own a [] no_number
+
+pub read_set : (xs : List Value) (a : Value) (n : ℕ) → n < length xs → get_or (padded xs a) n no_number ≡ get_or xs n no_number
+read_set xs a n within =
+    let own : List Value = xs ++ replicate (ANSWER_REGISTER - length xs) no_number in
+    let both : length own ≡ length xs + length (replicate (ANSWER_REGISTER - length xs) no_number) = length-append xs (replicate (ANSWER_REGISTER - length xs) no_number) in
+    let inside : n < length own = omega (arith, both, within) in
+    get_or_append_left own (a ∷ []) no_number n inside ∙ get_or_append_left xs (replicate (ANSWER_REGISTER - length xs) no_number) no_number n within
+
+pub read_unset : (xs : List Value) (a : Value) (n : ℕ) → length xs ≤ n → n < ANSWER_REGISTER → get_or (padded xs a) n no_number ≡ no_number
+read_unset xs a n beyond below =
+    let rest : List Value = replicate (ANSWER_REGISTER - length xs) no_number in
+    let own : List Value = xs ++ rest in
+    let count : length own ≡ ANSWER_REGISTER = own_length xs (omega (arith, beyond, below)) in
+    get_or_append_left own (a ∷ []) no_number n (omega (arith, count, below)) ∙
+    get_or-append_right xs rest (length xs) n no_number refl beyond ∙
+    get_or-replicate_any (ANSWER_REGISTER - length xs) no_number (n - length xs)
 
 -- a write to the first free place of a list that is filled up
 set-first : {A : Type 0} (xs : List A) (k : ℕ) (x d : A) → set (xs ++ replicate (suc k) d) (length xs) x ≡ (xs ++ x ∷ []) ++ replicate k d

@@ -1,7 +1,7 @@
 -- Frames: where a body or a script stands, and how one begins.
 use Rattle.std.specs.Prelude.{ℕ, ◌+◌, ◌-◌, List, [], ◌∷◌, ◌++◌, Option, None, pos, length, replicate}
 use Rattle.std.specs.Prelude.{slice_set}
-use Rattle.com_base.specs.declared.limits.TheConstants.{REGISTER_COUNT, SLOT_COUNT}
+use Rattle.com_base.specs.declared.limits.TheConstants.{ANSWER_REGISTER, REGISTER_COUNT, SLOT_COUNT}
 use Rattle.com_base.specs.declared.value.RefValue.{RefValue}
 use Rattle.com_base.specs.declared.value.Value.{Value}
 use Rattle.com_base.specs.declared.value.Value.TheVariants as value
@@ -29,9 +29,10 @@ references (other ∷ rest) = references rest
 abbrev pub no_number : Value
 no_number = value.Int (pos 0)
 
--- All registers, of which only the first may have been set: those behind are the Int 0.
-abbrev pub padded : List Value → List Value
-padded values = values ++ replicate (REGISTER_COUNT - length values) no_number
+-- All registers: those that may have been set, of those before the answer's; the others, which are the Int 0; and the
+-- answer's, which is the last.
+abbrev pub padded : List Value → Value → List Value
+padded values answer = (values ++ replicate (ANSWER_REGISTER - length values) no_number) ++ answer ∷ []
 
 -- A frame at Enter: the values that are no references stand in the registers from the first on, and the
 -- references in the slots from the first on. All other registers are the Int 0, and all other slots are null.

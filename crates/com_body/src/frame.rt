@@ -2,13 +2,15 @@
 
 ghost use Rattle.std.specs.Prelude.{◌≡◌, ◌<◌, ◌≤◌, ◌+◌, Option, [], ◌∷◌, ◌++◌, IfOk};
 ghost use Rattle.std.specs.Prelude.{OnOk, length, slice_set, vec_len, vec_capacity};
-ghost use Rattle.com_base.specs.declared.limits.TheConstants.{PARAMETER_LIMIT, REGISTER_COUNT, SLOT_COUNT};
+ghost use Rattle.com_base.specs.declared.limits.TheConstants.{ANSWER_REGISTER, PARAMETER_LIMIT, REGISTER_COUNT};
+ghost use Rattle.com_base.specs.declared.limits.TheConstants.{SLOT_COUNT};
+ghost use Rattle.com_base.specs.declared.value.Value.{Value};
 ghost use Rattle.com_body.specs.Frames.{entered, padded, plain_values, references, with_register};
 ghost use Rattle.com_body.specs.Frames.{with_slot};
 ghost use Rattle.com_body.specs.Operands.{new_cells, register_of, slot_of};
 
 use crate::actions::Action;
-use com_base::{CELL_COUNT, LINK_COUNT, Memory, REGISTER_COUNT, RefValue, SLOT_COUNT, Value};
+use com_base::{ANSWER_REGISTER, CELL_COUNT, LINK_COUNT, Memory, RefValue, SLOT_COUNT, Value};
 use std::alloc::Global;
 use std::marker::Model;
 
@@ -20,24 +22,31 @@ use std::marker::Model;
 #[derive(Debug, Drop)]
 pub struct Frame {
     place: u32,
-    // Only the registers up to the last that was set, with room for all.
+    // Only the registers up to the last that was set of those before the answer's, with room for all of them.
     registers: Vec<Value>,
-    // The Int 0, which each register behind those holds.
+    // The last register, in which a call puts its HRESULT. It stands apart, since it is set most often: a copy
+    // would have to copy all registers for it.
+    answer: Value,
+    // The Int 0, which each register holds that was not set.
     zero: Value,
     slots: [Option<RefValue>; SLOT_COUNT as usize],
 }
 
 impl Model for Frame {
     ghost use Rattle.std.specs.Prelude.{◌≡◌, ◌≤◌, length, vec_len, vec_capacity};
-    ghost use Rattle.com_base.specs.declared.limits.TheConstants.{REGISTER_COUNT, SLOT_COUNT};
-    ghost use Rattle.com_body.specs.Frames.{FrameView, padded, no_number};
+    ghost use Rattle.com_base.specs.declared.limits.TheConstants.{ANSWER_REGISTER, SLOT_COUNT};
+    ghost use Rattle.com_body.specs.Frames.{FrameView, no_number, padded};
 
     ghost Value = { FrameView };
 
-    ghost view = { λ a. record { place = a.place; registers = padded a.registers.items; slots = a.slots } };
+    ghost view = { λ a. record {
+      place = a.place;
+      registers = padded a.registers.items a.answer;
+      slots = a.slots;
+    } };
 
-    ghost invariant = { λ a. (vec_len a.registers ≤ REGISTER_COUNT)
-        × (REGISTER_COUNT ≤ vec_capacity a.registers)
+    ghost invariant = { λ a. (vec_len a.registers ≤ ANSWER_REGISTER)
+        × (ANSWER_REGISTER ≤ vec_capacity a.registers)
         × (a.zero ≡ no_number) × (length a.slots ≡ SLOT_COUNT) };
 }
 
@@ -46,7 +55,7 @@ impl Frame {
     /// references stand in the registers from the first on, in their order, and the references in the slots
     /// from the first on. All other registers are the Int 0, and all other slots are null. The only error is
     /// want of memory.
-    #[tactic(auto, using(crate::proofs::Entries::entered_count))]
+    #[tactic(auto, using(crate::proofs::Entries::entered_count, crate::proofs::Entries::padded_entered))]
     pub fn enter(alloc: Global, values: &[Value]) -> Result<Frame, Memory>
         requires { length values.now ≤ PARAMETER_LIMIT }
         ensures { IfOk result (λ frame. frame ≡ entered values.now) }
@@ -54,6 +63,7 @@ impl Frame {
         Ok(Frame {
             place: 0,
             registers: entered_registers(alloc, values)?,
+            answer: Value::Int(0),
             zero: Value::Int(0),
             slots: entered_slots(values),
         })
@@ -88,10 +98,14 @@ impl Frame {
 
     /// The value in a register.
     #[inline]
+    #[tactic(auto, using(crate::proofs::Entries::read_answer, crate::proofs::Entries::read_set, crate::proofs::Entries::read_unset))]
     pub fn register(&self, number: u8) -> &Value
         requires { number < REGISTER_COUNT }
         ensures { result.now ≡ register_of self.now number }
     {
+        if number == ANSWER_REGISTER {
+            return &self.answer;
+        }
         match self.registers.get(number as usize) {
             Some(value) => value,
             None => &self.zero,
@@ -104,19 +118,22 @@ impl Frame {
         requires { number < SLOT_COUNT }
         ensures { result ≡ slot_of self.now number }
     {
-        self.slots[number as usize]
+        let slots = self.slots.as_slice();
+        slots[number as usize]
     }
 
     /// Puts a value in a register, and leaves all else.
     #[inline]
-    #[tactic(auto, using(crate::proofs::Entries::padded_set))]
+    #[tactic(auto, using(crate::proofs::Entries::padded_answered))]
     pub fn set_register(&mut self, number: u8, value: Value)
         requires { number < REGISTER_COUNT }
         ensures { self.new ≡ with_register self.old number value }
     {
-        let number = number as usize;
-        reach(&mut self.registers, number);
-        self.registers[number] = value;
+        if number == ANSWER_REGISTER {
+            self.answer = value;
+            return;
+        }
+        set(&mut self.registers, number as usize, value);
     }
 
     /// Puts a reference, or null, in a slot, and leaves all else.
@@ -133,17 +150,54 @@ impl Frame {
     pub fn copy(&self, alloc: Global) -> Result<Frame, Memory>
         ensures { IfOk result (λ frame. frame ≡ self.now) }
     {
-        let mut registers = Vec::with_capacity(alloc, REGISTER_COUNT as usize)?;
-        for value in &self.registers {
-            append_copy(&mut registers, value)?;
-        }
-        Ok(Frame {
+        let mut frame = Frame {
             place: self.place,
-            registers,
+            registers: Vec::with_capacity(alloc, ANSWER_REGISTER as usize)?,
+            answer: Value::Int(0),
             zero: Value::Int(0),
             slots: self.slots,
-        })
+        };
+        append_copies(&mut frame.registers, self.registers.as_slice())?;
+        copy_over(&mut frame.answer, &self.answer)?;
+        Ok(frame)
     }
+
+    /// Makes a frame equal to another, in the memory that it has. The only error is want of memory for a value
+    /// that takes some: then it is some frame.
+    pub fn copy_from(&mut self, other: &Frame) -> Result<(), Memory>
+        ensures { OnOk result (self.new ≡ other.now) }
+    {
+        self.place = other.place;
+        self.slots = other.slots;
+        self.registers.clear();
+        append_copies(&mut self.registers, other.registers.as_slice())?;
+        copy_over(&mut self.answer, &other.answer)
+    }
+}
+
+// Puts an equal value in place of another.
+#[inline(always)]
+fn copy_over(place: &mut Value, value: &Value) -> Result<(), Memory>
+    ensures { OnOk result (place.new ≡ value.now) }
+{
+    match value {
+        Value::Int(number) => *place = Value::Int(*number),
+        _ => *place = value.copy()?,
+    }
+    Ok(())
+}
+
+// Appends equal values, for which there is room.
+fn append_copies(registers: &mut Vec<Value>, values: &[Value]) -> Result<(), Memory>
+    requires { vec_len registers.old + length values.now ≤ vec_capacity registers.old }
+    ensures items { OnOk result (registers.new.items ≡ registers.old.items ++ values.now) }
+    ensures len { vec_len registers.new ≤ vec_len registers.old + length values.now }
+    ensures room { vec_capacity registers.new ≡ vec_capacity registers.old }
+{
+    for value in values {
+        append_copy(registers, value)?;
+    }
+    Ok(())
 }
 
 // Appends an equal value. Most registers hold numbers, and a number is put there at once: a value that comes
@@ -153,6 +207,7 @@ fn append_copy(registers: &mut Vec<Value>, value: &Value) -> Result<(), Memory>
     requires { vec_len registers.old < vec_capacity registers.old }
     ensures items { OnOk result (registers.new.items ≡ registers.old.items ++ value.now ∷ []) }
     ensures len { OnOk result (vec_len registers.new ≡ vec_len registers.old + 1) }
+    ensures most { vec_len registers.new ≤ vec_len registers.old + 1 }
     ensures room { vec_capacity registers.new ≡ vec_capacity registers.old }
 {
     match value {
@@ -182,9 +237,9 @@ fn entered_registers(alloc: Global, values: &[Value]) -> Result<Vec<Value>, Memo
     requires { length values.now ≤ PARAMETER_LIMIT }
     ensures list { IfOk result (λ registers. registers.items ≡ plain_values values.now) }
     ensures count { IfOk result (λ registers. vec_len registers ≤ PARAMETER_LIMIT) }
-    ensures room { IfOk result (λ registers. vec_capacity registers ≡ REGISTER_COUNT) }
+    ensures room { IfOk result (λ registers. vec_capacity registers ≡ ANSWER_REGISTER) }
 {
-    let mut registers = Vec::with_capacity(alloc, REGISTER_COUNT as usize)?;
+    let mut registers = Vec::with_capacity(alloc, ANSWER_REGISTER as usize)?;
     for value in values {
         append_plain(&mut registers, value)?;
     }
@@ -194,9 +249,9 @@ fn entered_registers(alloc: Global, values: &[Value]) -> Result<Vec<Value>, Memo
 // Appends the Int 0 until there are `count` values.
 #[tactic(auto, using(crate::proofs::Entries::padded_more))]
 fn fill(registers: &mut Vec<Value>, count: usize)
-    requires within { (vec_len registers.old ≤ count) × (count ≤ REGISTER_COUNT) }
-    requires room { REGISTER_COUNT ≤ vec_capacity registers.old }
-    ensures list { padded registers.new.items ≡ padded registers.old.items }
+    requires within { (vec_len registers.old ≤ count) × (count ≤ ANSWER_REGISTER) }
+    requires room { ANSWER_REGISTER ≤ vec_capacity registers.old }
+    ensures list { (a : Value) → padded registers.new.items a ≡ padded registers.old.items a }
     ensures count { vec_len registers.new ≡ count }
     ensures room { vec_capacity registers.new ≡ vec_capacity registers.old }
 {
@@ -208,15 +263,30 @@ fn fill(registers: &mut Vec<Value>, count: usize)
 // Appends the Int 0 until the register with this number is there.
 #[inline]
 fn reach(registers: &mut Vec<Value>, number: usize)
-    requires within { (vec_len registers.old ≤ REGISTER_COUNT) × (number < REGISTER_COUNT) }
-    requires room { REGISTER_COUNT ≤ vec_capacity registers.old }
-    ensures list { padded registers.new.items ≡ padded registers.old.items }
-    ensures there { (number < vec_len registers.new) × (vec_len registers.new ≤ REGISTER_COUNT) }
+    requires within { (vec_len registers.old ≤ ANSWER_REGISTER) × (number < ANSWER_REGISTER) }
+    requires room { ANSWER_REGISTER ≤ vec_capacity registers.old }
+    ensures list { (a : Value) → padded registers.new.items a ≡ padded registers.old.items a }
+    ensures there { (number < vec_len registers.new) × (vec_len registers.new ≤ ANSWER_REGISTER) }
     ensures room { vec_capacity registers.new ≡ vec_capacity registers.old }
 {
     if number >= registers.len() {
         fill(registers, number + 1);
     }
+}
+
+// Puts a value in the register with this number, which is none of the answer's.
+#[inline]
+#[tactic(auto, using(crate::proofs::Entries::padded_set))]
+fn set(registers: &mut Vec<Value>, number: usize, value: Value)
+    requires within { (vec_len registers.old ≤ ANSWER_REGISTER) × (number < ANSWER_REGISTER) }
+    requires room { ANSWER_REGISTER ≤ vec_capacity registers.old }
+    ensures list { (a : Value) → padded registers.new.items a
+        ≡ slice_set (padded registers.old.items a) number value }
+    ensures there { vec_len registers.new ≤ ANSWER_REGISTER }
+    ensures room { vec_capacity registers.new ≡ vec_capacity registers.old }
+{
+    reach(registers, number);
+    registers[number] = value;
 }
 
 // The slots at Enter.

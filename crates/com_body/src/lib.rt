@@ -19,4 +19,4 @@ pub use com_base::Memory;
 pub use frame::{Cells, Frame, Job, Native, Outcome};
 pub use operands::{Arg, Asked, Code, Destination, Given, Op, Place};
 pub use statements::Stmt;
-pub use steps::{step, step_no_body};
+pub use steps::{step, step_copies, step_no_body};

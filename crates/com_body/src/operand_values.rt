@@ -55,7 +55,10 @@ pub fn held_at(frame: &Frame, cells: &Cells, place: Place) -> Option<RefValue>
 {
     match place {
         Place::Slot(number) => frame.slot(number),
-        Place::Link(number) => cells.links[number as usize],
+        Place::Link(number) => {
+            let links = cells.links.as_slice();
+            links[number as usize]
+        }
     }
 }
 

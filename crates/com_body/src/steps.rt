@@ -1,6 +1,6 @@
 //! The body step.
 
-ghost use Rattle.std.specs.Prelude.{◌≡◌, ◌≤◌, IfOk};
+ghost use Rattle.std.specs.Prelude.{◌≡◌, ◌≤◌, IfOk, OnOk};
 ghost use Rattle.com_body.specs.Actions.{action_of, packet_action_of, lane_action_of, leave_ok};
 ghost use Rattle.com_body.specs.Bodies.{IsInRange, skip_of};
 ghost use Rattle.com_body.specs.BodySteps.{effect_of, body_step, no_body};
@@ -19,10 +19,10 @@ use std::alloc::Global;
 
 // What a statement did: a local one passes over so many of the statements behind it, and any other is an
 // action.
-#[derive(Debug, Drop)]
+#[derive(Debug, Clone, Copy)]
 enum Done {
     Went(u32),
-    Acted(Action),
+    Acted,
 }
 
 /// The body step: local statements one by one, until an action stands at the program counter.
@@ -33,31 +33,59 @@ enum Done {
 pub fn step(alloc: Global, body: &Body, frame: Frame, cells: Cells) -> Result<Outcome, Memory>
     ensures { IfOk result (λ outcome. outcome ≡ body_step body.now frame cells) }
 {
-    let statements = body.statements();
-    let mut frame = frame;
-    let mut cells = cells;
-    while let Some(statement) = statements.get(frame.place() as usize) {
-        match do_statement(alloc, statement, &mut frame, &mut cells)? {
-            Done::Went(passed) => {
-                let next = frame.place() + 1 + passed;
-                frame.set_place(next);
-            }
-            Done::Acted(action) => {
-                let next = frame.place() + 1;
-                frame.set_place(next);
-                return Ok(Outcome {
-                    frame,
-                    cells,
-                    action,
-                });
-            }
-        }
-    }
-    Ok(Outcome {
+    let mut outcome = Outcome {
         frame,
         cells,
         action: leave_ok(),
-    })
+    };
+    walk(alloc, body, &mut outcome)?;
+    Ok(outcome)
+}
+
+/// The body step from copies of a frame and cells. The only error is want of memory.
+pub fn step_copies(
+    alloc: Global,
+    body: &Body,
+    frame: &Frame,
+    cells: &Cells,
+) -> Result<Outcome, Memory>
+    ensures { IfOk result (λ outcome. outcome ≡ body_step body.now frame.now cells.now) }
+{
+    let mut outcome = Outcome {
+        frame: frame.copy(alloc)?,
+        cells: *cells,
+        action: leave_ok(),
+    };
+    walk(alloc, body, &mut outcome)?;
+    Ok(outcome)
+}
+
+// The body step in its place, which has the frame and the cells from which it is made, and the action at the end of a
+// body.
+fn walk(alloc: Global, body: &Body, outcome: &mut Outcome) -> Result<(), Memory>
+    requires { outcome.old.action ≡ leave_ok }
+    ensures { OnOk result (outcome.new ≡ body_step body.now outcome.old.frame outcome.old.cells) }
+{
+    let statements = body.statements();
+    while let Some(statement) = statements.get(outcome.frame.place() as usize) {
+        let Outcome {
+            frame,
+            cells,
+            action,
+        } = outcome;
+        match do_statement(alloc, statement, frame, cells, action)? {
+            Done::Went(passed) => {
+                let next = outcome.frame.place() + 1 + passed;
+                outcome.frame.set_place(next);
+            }
+            Done::Acted => {
+                let next = outcome.frame.place() + 1;
+                outcome.frame.set_place(next);
+                return Ok(());
+            }
+        }
+    }
+    Ok(())
 }
 
 /// The body step of a method that was given no body: it leaves with E_NOTIMPL. It takes no memory.
@@ -93,16 +121,18 @@ fn leave_ok() -> Action
     }
 }
 
-// Does a local statement, or gives the action that the statement is.
+// Does a local statement, or puts the action that the statement is in its place.
 fn do_statement(
     alloc: Global,
     statement: &Stmt,
     frame: &mut Frame,
     cells: &mut Cells,
+    action: &mut Action,
 ) -> Result<Done, Memory>
     requires { IsInRange statement.now }
     ensures done { IfOk result (λ done. DoneIs done
-        (effect_of frame.old cells.old statement.now) frame.old frame.new cells.old cells.new) }
+        (effect_of frame.old cells.old statement.now) frame.old frame.new cells.old cells.new
+        action.old action.new) }
     ensures passed { IfOk result (λ done. passed_over done ≤ skip_of statement.now) }
     ensures place { frame.new.place ≡ frame.old.place }
 {
@@ -133,7 +163,8 @@ fn do_statement(
             Ok(Done::Went(0))
         }
         Stmt::Load { to, cell } => {
-            frame.set_register(*to, Value::Int(cells.numbers[*cell as usize]));
+            let numbers = cells.numbers.as_slice();
+            frame.set_register(*to, Value::Int(numbers[*cell as usize]));
             Ok(Done::Went(0))
         }
         Stmt::Store { cell, from } => {
@@ -145,7 +176,10 @@ fn do_statement(
             let is_zero = number_in(frame.register(*register)) == 0;
             Ok(Done::Went(if is_zero { *count } else { 0 }))
         }
-        action => Ok(Done::Acted(action_of(alloc, action, frame, cells)?)),
+        other => {
+            *action = action_of(alloc, other, frame, cells)?;
+            Ok(Done::Acted)
+        }
     }
 }
 

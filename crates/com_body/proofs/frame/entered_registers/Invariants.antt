@@ -1,5 +1,5 @@
 use Rattle.std.proofs.Common.{◌≡◌, ◌≤◌, take, vec_len, vec_capacity}
-use Rattle.com_base.specs.declared.limits.TheConstants.{REGISTER_COUNT}
+use Rattle.com_base.specs.declared.limits.TheConstants.{ANSWER_REGISTER}
 use Rattle.com_body.specs.Frames.{plain_values}
 use Rattle.com_body.proofs.frame.entered_registers.Given as goal
 
@@ -7,4 +7,4 @@ abbrev pub invariant-loop-value : goal.invariant-loop-value
 invariant-loop-value l =
     (l.registers.items ≡ plain_values (take l.value-index l.values)) ×
     (vec_len l.registers ≤ l.value-index) ×
-    (vec_capacity l.registers ≡ REGISTER_COUNT)
+    (vec_capacity l.registers ≡ ANSWER_REGISTER)
