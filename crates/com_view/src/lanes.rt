@@ -14,6 +14,7 @@ use com_deeds::is_post;
 
 impl<'a> View<'a> {
     /// What a lane is for.
+    #[inline(always)]
     pub fn sort(&self, lane: u32) -> Sort
         ensures { sort_as result ≡ lane_sort self.now.scenario lane }
     {
@@ -22,6 +23,7 @@ impl<'a> View<'a> {
 
     /// The home of a lane: the apartment that a thread initialised, the host's STA for the host's lane, and
     /// the multithreaded one for a lane of the pool.
+    #[inline(always)]
     pub fn home(&self, lane: u32) -> Option<u32>
         ensures { result ≡ home_seen self.now lane }
     {

@@ -46,6 +46,7 @@ impl<'a> View<'a> {
     }
 
     // Whether a call is posted in an STA's inbox, where the home is one.
+    #[inline(always)]
     fn has_posted(&self, home: Option<u32>) -> bool
         ensures { result ≡ has_posted (bare self.now) home }
     {
@@ -62,6 +63,7 @@ impl<'a> View<'a> {
 
     // Whether a rule gives an entry to a lane in which nothing is open, where no Final comes first: a thread's
     // script acts until its lane is over, and the lanes of the host and of the pool let in what is posted.
+    #[inline(always)]
     fn idle_has(&self, lane: u32) -> bool
         ensures { result ≡ idle_has (bare self.now) (lane_sort self.now.scenario lane) lane }
     {
@@ -75,6 +77,7 @@ impl<'a> View<'a> {
 
     // Whether a rule gives an entry to a lane that pumps, where no Final comes first: a word or a quit stands,
     // its bound is reached, or its inbox has a call.
+    #[inline(always)]
     fn pump_has(&self, lane: u32) -> bool
         ensures { result ≡ pump_has (bare self.now) lane }
     {
@@ -103,6 +106,7 @@ impl<'a> View<'a> {
 
     // Whether something comes to a lane that waits in an STA for a posted call: another call, or a word that its
     // filter was not asked about.
+    #[inline(always)]
     fn has_come(&self, lane: u32, call: u32) -> bool
         ensures { result ≡ has_come (bare self.now) lane call }
     {
@@ -117,6 +121,7 @@ impl<'a> View<'a> {
     }
 
     // Whether a rule gives an entry to a lane that waits for a call, where no Final comes first.
+    #[inline(always)]
     fn wait_has(&self, lane: u32, call: u32) -> bool
         ensures { result ≡ wait_has (bare self.now) lane call }
     {

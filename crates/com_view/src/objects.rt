@@ -20,6 +20,7 @@ use com_model::Deed;
 impl<'a> View<'a> {
     /// Whether a lane serves an apartment: a thread's the STAs that it made, the host's lane the host's STA,
     /// and one of the pool the neutral and the multithreaded apartment.
+    #[inline(always)]
     pub fn serves(&self, lane: u32, apartment: u32) -> bool
         ensures { result ≡ serves_seen self.now lane apartment }
     {
@@ -31,8 +32,8 @@ impl<'a> View<'a> {
         }
     }
 
-    // The first of these objects that the lane serves. It is a function of its own, since mostly nothing is dying.
-    #[inline(never)]
+    // The first of these objects that the lane serves.
+    #[inline(always)]
     fn first_served(&self, lane: u32, objects: &[u32]) -> Option<u32>
         ensures { result ≡ first (filter (λ o. serves_seen self.now lane
             (named_at self.now.objects o)) objects.now) }

@@ -103,7 +103,7 @@ impl<'a> View<'a> {
 
     // Makes the question to the caller's filter after a verdict that turned the call away
     // (IMessageFilter::RetryRejectedCall), or the new posting of a call whose time has come.
-    #[inline(never)]
+    #[inline(always)]
     fn move_on(&self, lane: u32, call: u32, deed: &mut Deed) -> bool
         ensures { where_true result deed.new
             ≡ moved_deed self.now.scenario (bare self.now) lane call ((bare self.now).phase call) }
