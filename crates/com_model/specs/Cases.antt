@@ -13,6 +13,7 @@ use Rattle.com_body.specs.declared.frame.Native.TheVariants as native
 use Rattle.com_classes.specs.declared.classes.ThreadingModel.TheVariants as model
 use Rattle.com_filter.specs.declared.Verdict.TheVariants as verdict
 use Rattle.com_filter.specs.declared.Rule.TheVariants as rule
+use Rattle.com_model.specs.Answers.{CO_E_OBJNOTCONNECTED}
 use Rattle.com_model.specs.declared.deeds.Deed.TheVariants as deed
 use Rattle.com_model.specs.declared.deeds.Route.TheVariants as route
 use Rattle.com_model.specs.declared.deeds.Entry.{Entry}
@@ -1414,7 +1415,7 @@ abbrev pub forged_4 : List Entry
 forged_4 = record { lane = 1; deed = deed.Raw 1 72 } ∷ forged_3
 
 abbrev pub forged_5 : List Entry
-forged_5 = record { lane = 1; deed = deed.Unmarshal None None 0 (record { 0 = 0x800401fd }) } ∷ forged_4
+forged_5 = record { lane = 1; deed = deed.Unmarshal None None 0 CO_E_OBJNOTCONNECTED } ∷ forged_4
 
 abbrev pub forged_6 : List Entry
 forged_6 =
@@ -1425,7 +1426,7 @@ forged_6 =
     ∷ forged_5
 
 abbrev pub forged_7 : List Entry
-forged_7 = record { lane = 1; deed = deed.Unmarshal None None 0 (record { 0 = 0x800401fd }) } ∷ forged_6
+forged_7 = record { lane = 1; deed = deed.Unmarshal None None 0 CO_E_OBJNOTCONNECTED } ∷ forged_6
 
 abbrev pub forged_8 : List Entry
 forged_8 = record { lane = 1; deed = deed.Uninit (Some 3) 0 } ∷ forged_7

@@ -32,8 +32,8 @@ impl<'a> View<'a> {
         }
     }
 
-    // The first of these objects that the lane serves.
-    #[inline(always)]
+    // The first of these objects that the lane serves. A call of its own, since few looks come to it.
+    #[inline(never)]
     fn first_served(&self, lane: u32, objects: &[u32]) -> Option<u32>
         ensures { result ≡ first (filter (λ o. serves_seen self.now lane
             (named_at self.now.objects o)) objects.now) }
@@ -47,6 +47,7 @@ impl<'a> View<'a> {
     }
 
     /// The first dying object that a lane serves.
+    #[inline(always)]
     pub fn dying(&self, lane: u32) -> Option<u32>
         ensures { result ≡ first (dying_seen self.now lane) }
     {
