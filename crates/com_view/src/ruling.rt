@@ -1,13 +1,14 @@
 //! The entry that the rules give a lane, by what is innermost in it: only the rules that can apply are tried, and
 //! the entry is made where it is wanted.
 
-ghost use Rattle.std.specs.Prelude.{◌≡◌, IfOk, Some, true};
+ghost use Rattle.std.specs.Prelude.{◌≡◌, IfOk, None, Some, true};
 ghost use Rattle.com_model.specs.Lists.{first, or_else, where_true};
 ghost use Rattle.com_model.specs.Rules.{admission, rule_script, ruled, takes_word, top};
 ghost use Rattle.com_model.specs.Tables.{lane_sort};
 ghost use Rattle.com_state.specs.Parts.{served_at};
 ghost use Rattle.com_view.specs.Ruled.{answer_deed, asked_deed, has_served, home_call, idle_call, moved_deed};
 ghost use Rattle.com_view.specs.Ruled.{posted_deed, pump_deed, stirs_to, wait_deed};
+ghost use Rattle.com_view.specs.Packed.{IsPacked};
 ghost use Rattle.com_view.specs.Seen.{bare, home_seen, sight_by};
 
 use crate::holding::References;
@@ -66,7 +67,8 @@ impl<'a> View<'a> {
         }
     }
 
-    // Makes the admission of a call in a lane. The only error is want of memory.
+    // Makes the admission in a lane of a call that was neither entered nor answered. The only error is want of
+    // memory.
     #[inline(never)]
     fn admit<R: References>(
         &self,
@@ -76,11 +78,13 @@ impl<'a> View<'a> {
         call: u32,
         deed: &mut Deed,
     ) -> Result<bool, Memory>
+        requires packed { IsPacked self.now (R.books refs.now) }
+        requires admitted { (bare self.now).admitted call ≡ None }
+        requires ended { (bare self.now).ending call ≡ None }
         ensures { IfOk result (λ made. where_true made deed.new
             ≡ Some (admission self.now.scenario (sight_by self.now (R.books refs.now)) lane call)) }
     {
-        let is_gone = self.has_lost_argument(refs, call);
-        *deed = self.admission(alloc, lane, call, is_gone)?;
+        *deed = self.admission(refs, alloc, lane, call)?;
         Ok(true)
     }
 
@@ -154,6 +158,7 @@ impl<'a> View<'a> {
         call: u32,
         deed: &mut Deed,
     ) -> Result<bool, Memory>
+        requires packed { IsPacked self.now (R.books refs.now) }
         ensures { IfOk result (λ made. where_true made deed.new
             ≡ posted_deed self.now.scenario (sight_by self.now (R.books refs.now)) lane call) }
     {
@@ -175,6 +180,7 @@ impl<'a> View<'a> {
         call: u32,
         deed: &mut Deed,
     ) -> Result<bool, Memory>
+        requires packed { IsPacked self.now (R.books refs.now) }
         ensures { IfOk result (λ made. where_true made deed.new
             ≡ wait_deed self.now.scenario (sight_by self.now (R.books refs.now)) lane call) }
     {
@@ -199,6 +205,7 @@ impl<'a> View<'a> {
         bound: u32,
         deed: &mut Deed,
     ) -> Result<bool, Memory>
+        requires packed { IsPacked self.now (R.books refs.now) }
         ensures { IfOk result (λ made. where_true made deed.new
             ≡ pump_deed self.now.scenario (sight_by self.now (R.books refs.now)) lane bound) }
     {
@@ -220,6 +227,7 @@ impl<'a> View<'a> {
         lane: u32,
         deed: &mut Deed,
     ) -> Result<bool, Memory>
+        requires packed { IsPacked self.now (R.books refs.now) }
         ensures { IfOk result (λ made. where_true made deed.new
             ≡ stirs_to self.now.scenario (sight_by self.now (R.books refs.now))
             (lane_sort self.now.scenario lane) lane None) }
@@ -238,6 +246,7 @@ impl<'a> View<'a> {
         lane: u32,
         deed: &mut Deed,
     ) -> Result<bool, Memory>
+        requires packed { IsPacked self.now (R.books refs.now) }
         ensures { IfOk result (λ made. where_true made deed.new
             ≡ stirs_to self.now.scenario (sight_by self.now (R.books refs.now))
             (lane_sort self.now.scenario lane) lane (top (bare self.now) lane)) }
@@ -260,6 +269,7 @@ impl<'a> View<'a> {
         lane: u32,
         deed: &mut Deed,
     ) -> Result<bool, Memory>
+        requires packed { IsPacked self.now (R.books refs.now) }
         ensures { IfOk result (λ made. or_else (where_true made deed.new)
             (rule_script self.now.scenario (sight_by self.now (R.books refs.now)) lane)
             ≡ ruled self.now.scenario (sight_by self.now (R.books refs.now)) lane) }
