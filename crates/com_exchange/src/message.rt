@@ -29,22 +29,20 @@ enum Form {
     Request(Box<Written>),
 }
 
-/// What a call sends, seen as its values. A direct call sends the values themselves. A call that is
-/// marshalled sends the bytes of its request, which can be read, and the values are those that are read in
-/// them.
+/// What a call sends, seen as its values and the fields of the packets that carry the references among them. A
+/// direct call sends the values themselves, and no packets. A call that is marshalled sends the bytes of its
+/// request, which can be read, and the values and the fields are those that are read in them.
 #[derive(Debug, Drop)]
 pub struct Message {
     form: Form,
 }
 
 impl Model for Message {
-    ghost use Rattle.std.specs.Prelude.{List};
-    ghost use Rattle.com_base.specs.declared.value.Value.{Value as Carried};
-    ghost use Rattle.com_exchange.specs.Messages.{IsReadable, values_of};
+    ghost use Rattle.com_exchange.specs.Messages.{IsReadable, Letter, letter_of};
 
-    ghost Value = { List Carried };
+    ghost Value = { Letter };
 
-    ghost view = { λ s. values_of s.form };
+    ghost view = { λ s. letter_of s.form };
 
     ghost invariant = { λ s. IsReadable s.form };
 }
@@ -100,7 +98,7 @@ fn copy_of_kinds(alloc: Global, kinds: &[Kind]) -> Result<Rows<Kind>, Memory>
 impl Message {
     /// The values themselves, as a direct call sends them. It takes no memory.
     pub fn of_values(values: Rows<Value>) -> Message
-        ensures { result ≡ values }
+        ensures { result ≡ record { values = values; fields = [] } }
     {
         Message {
             form: Form::Values(values),
@@ -122,7 +120,8 @@ impl Message {
         requires travel { TravelAs kinds.now values.now }
         requires named { map reference_in_fields packets.now ≡ carried values.now }
         requires written { bytes.now ≡ request_bytes cause values.now packets.now }
-        ensures { IfOk result (λ message. message ≡ values.now) }
+        ensures { IfOk result (λ message. message
+            ≡ record { values = values.now; fields = packets.now }) }
     {
         says_values(cause, kinds, values, packets);
         let written = Written {
@@ -134,14 +133,23 @@ impl Message {
         })
     }
 
-    /// The values, of a request by reading its bytes. The only error is want of memory.
-    pub fn read(&self, alloc: Global) -> Result<Rows<Value>, Memory>
-        ensures { IfOk result (λ values. values ≡ self.now) }
+    /// Receives the values. Of a request its bytes are read, and the packet of each reference is found by the five
+    /// fields that stand there. Where the packets of several parameters are not outstanding, the first of them is
+    /// answered. The only other error is want of memory. Source: MS-DCOM, STDOBJREF.
+    pub fn receive<P: Packets>(&self, alloc: Global, packets: &P) -> Result<Rows<Value>, ExchangeError>
+        ensures values { IfOk result (λ values. values ≡ self.now.values) }
+        ensures found { IfOk result (λ values. lost_parameter (P.named packets.now) self.now.values self.now.fields
+            ≡ None) }
+        ensures lost { (n : ℕ) → result ≡ Err (NotConnected n)
+            → lost_parameter (P.named packets.now) self.now.values self.now.fields ≡ Some n }
+        ensures all { IfOk result (λ values. any_lost (P.named packets.now) self.now.fields ≡ false) }
+        ensures one { (n : ℕ) → result ≡ Err (NotConnected n)
+            → any_lost (P.named packets.now) self.now.fields ≡ true }
     {
         match &self.form {
-            Form::Values(values) => copy_of(alloc, values.as_slice()),
+            Form::Values(values) => received_copies(alloc, values.as_slice()),
             Form::Request(written) => {
-                values_in_bytes(alloc, written.kinds.as_slice(), written.bytes.as_slice())
+                received_in_bytes(alloc, written.kinds.as_slice(), written.bytes.as_slice(), packets)
             }
         }
     }
