@@ -1,6 +1,7 @@
 //! The Enter of a call, or why it is not let in.
 
-ghost use Rattle.std.specs.Prelude.{◌≡◌, ◌&&◌, not, None, IfOk, if◌then◌else◌};
+ghost use Rattle.std.specs.Prelude.{◌≡◌, ◌&&◌, not, true, IfOk, if◌then◌else◌};
+ghost use Rattle.com_calls.specs.Kept.{is_open};
 ghost use Rattle.com_model.specs.Rules.{admission, arguments_gone, call_sort, is_handled_in, posted_to_sta};
 ghost use Rattle.com_model.specs.Rules.{verdict_on};
 ghost use Rattle.com_model.specs.Answers.{RPC_E_SERVER_CANTUNMARSHAL_DATA};
@@ -63,8 +64,7 @@ impl<'a> View<'a> {
         call: u32,
     ) -> Result<Deed, Memory>
         requires packed { IsPacked self.now (R.books refs.now) }
-        requires admitted { (bare self.now).admitted call ≡ None }
-        requires ended { (bare self.now).ending call ≡ None }
+        requires open { is_open self.now.calls call ≡ true }
         ensures { IfOk result (λ made. made
             ≡ (if arguments_gone (sight_by self.now (R.books refs.now)) call
             then deed.Refuse call RPC_E_SERVER_CANTUNMARSHAL_DATA
@@ -117,8 +117,7 @@ impl<'a> View<'a> {
         call: u32,
     ) -> Result<Deed, Memory>
         requires packed { IsPacked self.now (R.books refs.now) }
-        requires admitted { (bare self.now).admitted call ≡ None }
-        requires ended { (bare self.now).ending call ≡ None }
+        requires open { is_open self.now.calls call ≡ true }
         ensures { IfOk result (λ made. made
             ≡ admission self.now.scenario (sight_by self.now (R.books refs.now)) lane call) }
     {

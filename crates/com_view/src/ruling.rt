@@ -1,7 +1,8 @@
 //! The entry that the rules give a lane, by what is innermost in it: only the rules that can apply are tried, and
 //! the entry is made where it is wanted.
 
-ghost use Rattle.std.specs.Prelude.{◌≡◌, IfOk, None, Some, true};
+ghost use Rattle.std.specs.Prelude.{◌≡◌, IfOk, IfSome, Some, true};
+ghost use Rattle.com_calls.specs.Kept.{is_open};
 ghost use Rattle.com_model.specs.Lists.{first, or_else, where_true};
 ghost use Rattle.com_model.specs.Rules.{admission, rule_script, ruled, takes_word, top};
 ghost use Rattle.com_model.specs.Tables.{lane_sort};
@@ -35,7 +36,8 @@ fn put(made: Option<Deed>, deed: &mut Deed) -> bool
 impl<'a> View<'a> {
     // The first call in the inbox of a lane's home, where that is an STA.
     fn first_at_home(&self, lane: u32) -> Option<u32>
-        ensures { result ≡ home_call (bare self.now) (home_seen self.now lane) }
+        ensures first { result ≡ home_call (bare self.now) (home_seen self.now lane) }
+        ensures open { IfSome result (λ call. is_open self.now.calls call ≡ true) }
     {
         let home = self.home(lane)?;
         if home < HOST_STA {
@@ -47,7 +49,8 @@ impl<'a> View<'a> {
     // The call that a lane lets in with nothing open: the host's from its STA's inbox, one of the pool from that of
     // the MTA.
     fn first_when_idle(&self, lane: u32) -> Option<u32>
-        ensures { result ≡ idle_call (bare self.now) (lane_sort self.now.scenario lane) }
+        ensures first { result ≡ idle_call (bare self.now) (lane_sort self.now.scenario lane) }
+        ensures open { IfSome result (λ call. is_open self.now.calls call ≡ true) }
     {
         match self.sort(lane) {
             Sort::Thread => None,
@@ -79,8 +82,7 @@ impl<'a> View<'a> {
         deed: &mut Deed,
     ) -> Result<bool, Memory>
         requires packed { IsPacked self.now (R.books refs.now) }
-        requires admitted { (bare self.now).admitted call ≡ None }
-        requires ended { (bare self.now).ending call ≡ None }
+        requires open { is_open self.now.calls call ≡ true }
         ensures { IfOk result (λ made. where_true made deed.new
             ≡ Some (admission self.now.scenario (sight_by self.now (R.books refs.now)) lane call)) }
     {
