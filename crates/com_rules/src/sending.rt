@@ -10,7 +10,7 @@ ghost use Rattle.com_refs_books.specs.Changes.{Books};
 ghost use Rattle.com_classes.specs.Lookups.{method_at};
 ghost use Rattle.com_calls.specs.Enclosures.{HasAnswer};
 ghost use Rattle.com_exchange.specs.Answers.{TravelsAs};
-ghost use Rattle.com_exchange.specs.Messages.{CanTravel, TravelAs};
+ghost use Rattle.com_exchange.specs.Messages.{CanTravel, TravelAs, out_fields};
 ghost use Rattle.com_exchange.specs.Sent.{ResultCanTravel};
 ghost use Rattle.com_model.specs.declared.deeds.Deed.TheVariants as deed;
 ghost use Rattle.com_model.specs.declared.scenario.Scenario.{Scenario};
@@ -157,7 +157,7 @@ fn arguments<B: Found>(
 fn nothing_requested(alloc: Global, values: Rows<Value>) -> Requested
     ensures bytes { result.sending.bytes ≡ Option.None }
     ensures carried { result.sending.carried ≡ [] }
-    ensures message { result.message ≡ values }
+    ensures message { result.message ≡ record { values = values; fields = [] } }
 {
     Requested {
         sending: nothing_sent(alloc),
@@ -183,7 +183,12 @@ fn request_with<B: Found>(
         ≡ out_bytes view.now.scenario (sight_by view.now
         (B.books books.now)) lane Route.Post cause values.now) }
     ensures carried { IfOk result (λ made. made.sending.carried ≡ carried values.now) }
-    ensures message { IfOk result (λ made. made.message ≡ values.now) }
+    ensures message { IfOk result (λ made. made.message
+        ≡ record {
+          values = values.now;
+          fields = out_fields view.now.scenario (sight_by view.now (B.books books.now)) lane Route.Post
+              values.now;
+        }) }
 {
     let held = references_in(alloc, values)?;
     let fields = fields_made(view, books, alloc, lane, held.as_slice())?;
@@ -218,7 +223,12 @@ fn request_on<B: Found>(
         arguments.entry.values) }
     ensures carried { IfOk result (λ made. made.sending.carried ≡ (if is_marshalled route
         then carried arguments.entry.values else [])) }
-    ensures message { IfOk result (λ made. made.message ≡ arguments.entry.values) }
+    ensures message { IfOk result (λ made. made.message
+        ≡ record {
+          values = arguments.entry.values;
+          fields = out_fields view.now.scenario (sight_by view.now (B.books books.now)) lane route
+              arguments.entry.values;
+        }) }
 {
     let CallArguments { kinds, values } = arguments;
     match route {
