@@ -10,7 +10,7 @@ ghost use Rattle.com_refs_books.specs.Changes.{Books};
 ghost use Rattle.com_classes.specs.Lookups.{method_at};
 ghost use Rattle.com_calls.specs.Enclosures.{HasAnswer};
 ghost use Rattle.com_exchange.specs.Answers.{TravelsAs};
-ghost use Rattle.com_exchange.specs.Messages.{CanTravel, TravelAs, out_fields};
+ghost use Rattle.com_exchange.specs.Messages.{CanTravel, TravelAs};
 ghost use Rattle.com_exchange.specs.Sent.{ResultCanTravel};
 ghost use Rattle.com_model.specs.declared.deeds.Deed.TheVariants as deed;
 ghost use Rattle.com_model.specs.declared.scenario.Scenario.{Scenario};
@@ -20,7 +20,7 @@ ghost use Rattle.com_model.specs.Deeds.{deed_of, left_as, out_bytes, reply_for};
 ghost use Rattle.com_model.specs.Issue.{or_ok};
 ghost use Rattle.com_model.specs.Tables.{parameters, result_kind};
 ghost use Rattle.com_model.specs.Values.{carried, result_list, sent_values};
-ghost use Rattle.com_rules.specs.Acts.{Issues, carried_by, route_or, target_number};
+ghost use Rattle.com_rules.specs.Acts.{Issues, carried_by, route_or, sent_on, target_number};
 ghost use Rattle.com_rules.specs.Packets.{AllConnected};
 ghost use Rattle.com_rules.specs.Room.{HasRoom};
 ghost use Rattle.com_view.specs.Seen.{bare, sight_by};
@@ -184,11 +184,7 @@ fn request_with<B: Found>(
         (B.books books.now)) lane Route.Post cause values.now) }
     ensures carried { IfOk result (λ made. made.sending.carried ≡ carried values.now) }
     ensures message { IfOk result (λ made. made.message
-        ≡ record {
-          values = values.now;
-          fields = out_fields view.now.scenario (sight_by view.now (B.books books.now)) lane Route.Post
-              values.now;
-        }) }
+        ≡ sent_on view.now.scenario (sight_by view.now (B.books books.now)) lane Route.Post values.now) }
 {
     let held = references_in(alloc, values)?;
     let fields = fields_made(view, books, alloc, lane, held.as_slice())?;
@@ -224,11 +220,8 @@ fn request_on<B: Found>(
     ensures carried { IfOk result (λ made. made.sending.carried ≡ (if is_marshalled route
         then carried arguments.entry.values else [])) }
     ensures message { IfOk result (λ made. made.message
-        ≡ record {
-          values = arguments.entry.values;
-          fields = out_fields view.now.scenario (sight_by view.now (B.books books.now)) lane route
-              arguments.entry.values;
-        }) }
+        ≡ sent_on view.now.scenario (sight_by view.now (B.books books.now)) lane route
+        arguments.entry.values) }
 {
     let CallArguments { kinds, values } = arguments;
     match route {
