@@ -30,6 +30,7 @@ use Rattle.com_model.specs.Formed.{Formed}
 use Rattle.com_model.specs.Sight.{Sight, sight}
 use Rattle.com_model.specs.Deeds.{is_named, named_packet, packet_fields, same_fields, fields_since, with_packets}
 use Rattle.com_model.specs.Rules.{legal}
+use Rattle.com_model.specs.State.{grown}
 use Rattle.com_refs_books.specs.declared.keeps.Packet.{Packet}
 use Rattle.com_refs_books.specs.Counting.{numbers_from}
 use Rattle.com_refs_books.specs.Changes.{Books, packet, marshal_all, made_since}
@@ -42,7 +43,7 @@ use Rattle.com_laws_balance.proofs.Sendings.{end-grown}
 use Rattle.com_laws_ranges.proofs.Numbers.{out-few}
 use Rattle.com_exchange.specs.Messages.{out_fields}
 use Rattle.com_exchange.specs.Received.{packet_in_fields}
-use Rattle.com_laws_messages.specs.Written.{fields_after, fields_sent, AreFound, AreNone}
+use Rattle.com_laws_messages.specs.Written.{fields_made, fields_sent, AreFound, AreNone}
 use Rattle.com_laws_messages.proofs.Calls.{few-packets}
 use Rattle.com_laws_messages.proofs.Fields.{as-many-new, fields-number, held-few}
 use Rattle.com_laws_messages.proofs.Fitting.{limit-low}
@@ -103,15 +104,15 @@ at-other : (xs : List (List StdFields)) (x : List StdFields) (c : ℕ) → (c �
 at-other xs x zero f = refl
 at-other xs x (suc k) f = not-last xs x k (λ e. f (omega (arith, e)))
 
-more-sent : (s : Scenario) (h : List Entry) (l : ℕ) (d : Deed) (before : List (List StdFields)) → length before ≡ calls h → length (fields_after s h l d before) ≡ calls (record { lane = l; deed = d } ∷ h)
-more-sent s h l (deed.Out c o i m r k bytes) before e =
-    let more : length (before ++ out_fields s (sight s h) l r (out_values s (books s h) (is_marshalled r) (act s h l)) ∷ []) ≡ length before + 1 = length-append before _ in
+more-sent : (h : List Entry) (l : ℕ) (d : Deed) (fs : List StdFields) (before : List (List StdFields)) → length before ≡ calls h → length (grown (is_some (issues l d)) fs before) ≡ calls (record { lane = l; deed = d } ∷ h)
+more-sent h l (deed.Out c o i m r k bytes) fs before e =
+    let more : length (before ++ fs ∷ []) ≡ length before + 1 = length-append before (fs ∷ []) in
     omega (arith, more, e)
-more-sent s h l _ before e = e
+more-sent h l _ fs before e = e
 
 one-a-call : (s : Scenario) (h : List Entry) → length (fields_sent s h) ≡ calls h
 one-a-call s [] = refl
-one-a-call s (e ∷ h) = more-sent s h e.lane e.deed (fields_sent s h) (one-a-call s h)
+one-a-call s (e ∷ h) = more-sent h e.lane e.deed (fields_made s h e.lane (issues e.lane e.deed)) (fields_sent s h) (one-a-call s h)
 
 -- An Out has the number behind the calls before it.
 out-is-next : (s : Scenario) (h : List Entry) (l c : ℕ) (o : Option ℕ) (i m : ℕ) (r : Route) (k : ℕ) (bytes : Option (List ℕ)) → legal s (record { lane = l; deed = deed.Out c o i m r k bytes } ∷ h) → c ≡ length (fields_sent s h) + 1
@@ -182,7 +183,7 @@ issued-packed s h l c o i m r k bytes x q n t =
     subst (λ (gs : List StdFields). Packed s (e ∷ h) ((books s (e ∷ h)).arguments c) gs) (sym (at-last (fields_sent s h) fs c (out-is-next s h l c o i m r k bytes q)))
     (own-packed s h l c o i m r k bytes x q.0 n z.marked t)
 
-other-packed : (s : Scenario) (h : List Entry) (l c : ℕ) (d : Deed) → Formed s → legal s (record { lane = l; deed = d } ∷ h) → from_one (fields_after s h l d (fields_sent s h)) c [] ≡ from_one (fields_sent s h) c []
+other-packed : (s : Scenario) (h : List Entry) (l c : ℕ) (d : Deed) → Formed s → legal s (record { lane = l; deed = d } ∷ h) → from_one (fields_sent s (record { lane = l; deed = d } ∷ h)) c [] ≡ from_one (fields_sent s h) c []
     → ((k : ℕ) (o : Option ℕ) (i m : ℕ) (r : Route) (cause : ℕ) (bytes : Option (List ℕ)) → d ≡ deed.Out k o i m r cause bytes → (k == c) ≡ false)
     → IsPacked s h c → IsPacked s (record { lane = l; deed = d } ∷ h) c
 other-packed s h l c d x q same other z =
@@ -197,7 +198,7 @@ same-out k c n o p i m j y r t x z a b e d = let w : k ≡ n = cc in subst (λ (
 
 -- An Out of another call leaves the fields of this one.
 not-own : (s : Scenario) (h : List Entry) (l c k : ℕ) (o : Option ℕ) (i m : ℕ) (r : Route) (x : ℕ) (bytes : Option (List ℕ)) → legal s (record { lane = l; deed = deed.Out k o i m r x bytes } ∷ h) → (k == c) ≡ false
-    → from_one (fields_after s h l (deed.Out k o i m r x bytes) (fields_sent s h)) c [] ≡ from_one (fields_sent s h) c []
+    → from_one (fields_sent s (record { lane = l; deed = deed.Out k o i m r x bytes } ∷ h)) c [] ≡ from_one (fields_sent s h) c []
 not-own s h l c k o i m r x bytes q e =
     let is : k ≡ length (fields_sent s h) + 1 = out-is-next s h l k o i m r x bytes q in
     at-other (fields_sent s h) (out_fields s (sight s h) l r (out_values s (books s h) (is_marshalled r) (act s h l))) c
