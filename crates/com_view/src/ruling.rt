@@ -35,6 +35,7 @@ fn put(made: Option<Deed>, deed: &mut Deed) -> bool
 
 impl<'a> View<'a> {
     // The first call in the inbox of a lane's home, where that is an STA.
+    #[tactic(auto, using(crate::proofs::Opens::first_open))]
     fn first_at_home(&self, lane: u32) -> Option<u32>
         ensures first { result ≡ home_call (bare self.now) (home_seen self.now lane) }
         ensures open { IfSome result (λ call. is_open self.now.calls call ≡ true) }
@@ -48,6 +49,7 @@ impl<'a> View<'a> {
 
     // The call that a lane lets in with nothing open: the host's from its STA's inbox, one of the pool from that of
     // the MTA.
+    #[tactic(auto, using(crate::proofs::Opens::first_open))]
     fn first_when_idle(&self, lane: u32) -> Option<u32>
         ensures first { result ≡ idle_call (bare self.now) (lane_sort self.now.scenario lane) }
         ensures open { IfSome result (λ call. is_open self.now.calls call ≡ true) }
