@@ -44,13 +44,15 @@ values-are : (kinds : List Kind) (rest : List ℕ) (cause : Result Guid OrpcFaul
 values-are kinds rest (Err g) ws is e = absurd is
 values-are kinds rest (Ok cause) ws is e = ap (λ (r : Result (List Wire) ArgFault). values_read (with_wires cause r)) (sym e)
 
-pub values_are : (kinds : List Kind) (bytes : List ℕ) (ws : List Wire) → IsRead (request_in kinds bytes)
-    → args_of kinds (drop 32 bytes) ≡ Ok ws → values_in ws ≡ values_read (request_in kinds bytes)
-values_are kinds bytes ws is e = values-are kinds (drop 32 bytes) (request_of bytes) ws is e
+pub values_are : (kinds : List Kind) (bytes rest : List ℕ) (ws : List Wire) → IsRead (request_in kinds bytes) → rest ≡ drop 32 bytes
+    → args_of kinds rest ≡ Ok ws → values_in ws ≡ values_read (request_in kinds bytes)
+values_are kinds bytes rest ws is behind e =
+    values-are kinds (drop 32 bytes) (request_of bytes) ws is (ap (args_of kinds) (sym behind) ∙ e)
 
-pub fields_are : (kinds : List Kind) (bytes : List ℕ) (ws : List Wire) → args_of kinds (drop 32 bytes) ≡ Ok ws
+pub fields_are : (kinds : List Kind) (bytes rest : List ℕ) (ws : List Wire) → rest ≡ drop 32 bytes → args_of kinds rest ≡ Ok ws
     → fields_in ws ≡ fields_of_request kinds bytes
-fields_are kinds bytes ws e = ap (λ (r : Result (List Wire) ArgFault). fields_read r) (sym e)
+fields_are kinds bytes rest ws behind e =
+    ap (λ (r : Result (List Wire) ArgFault). fields_read r) (sym (ap (args_of kinds) (sym behind) ∙ e))
 
 -- ---- which packets are not outstanding
 
@@ -118,24 +120,29 @@ lost_more named i ws w within is found so_far =
 
 -- A lost packet that is found is the first.
 pub lost_here : (named : StdFields → Option ℕ) (i : ℕ) (ws : List Wire) (w : Wire) → i < length ws → w ≡ get_or ws i w
-    → any_lost named (fields_in_one w) ≡ true → LostSoFar named i ws
-    → (Some i ≡ lost_parameter named (values_in ws) (fields_in ws)) × (true ≡ any_lost named (fields_in ws))
+    → any_lost named (fields_in_one w) ≡ true → LostSoFar named i ws → Some i ≡ lost_parameter named (values_in ws) (fields_in ws)
 lost_here named i ws w within is lost so_far =
-    let here : drop i ws ≡ w ∷ drop (suc i) ws = split ws i w within is in (
-      sym (so_far.number
-          ∙ ap (λ (l : List Wire). lost_from named i (values_in l) (fields_in l)) here
-          ∙ from-lost named i w (drop (suc i) ws) lost),
-      sym (so_far.any
-          ∙ ap (λ (l : List Wire). any_lost named (fields_in l)) here
-          ∙ any-lost named w (drop (suc i) ws)
-          ∙ ap (λ (b : Bool). b || any_lost named (fields_in (drop (suc i) ws))) lost),
-    )
+    sym (so_far.number
+        ∙ ap (λ (l : List Wire). lost_from named i (values_in l) (fields_in l)) (split ws i w within is)
+        ∙ from-lost named i w (drop (suc i) ws) lost)
+
+pub any_here : (named : StdFields → Option ℕ) (i : ℕ) (ws : List Wire) (w : Wire) → i < length ws → w ≡ get_or ws i w
+    → any_lost named (fields_in_one w) ≡ true → LostSoFar named i ws → true ≡ any_lost named (fields_in ws)
+any_here named i ws w within is lost so_far =
+    sym (so_far.any
+        ∙ ap (λ (l : List Wire). any_lost named (fields_in l)) (split ws i w within is)
+        ∙ any-lost named w (drop (suc i) ws)
+        ∙ ap (λ (b : Bool). b || any_lost named (fields_in (drop (suc i) ws))) lost)
 
 -- Behind the last value there is none.
 pub lost_nowhere : (named : StdFields → Option ℕ) (i : ℕ) (ws : List Wire) → length ws ≤ i → LostSoFar named i ws
-    → (None ≡ lost_parameter named (values_in ws) (fields_in ws)) × (false ≡ any_lost named (fields_in ws))
+    → None ≡ lost_parameter named (values_in ws) (fields_in ws)
 lost_nowhere named i ws past so_far =
-    let none : drop i ws ≡ [] = drop_of_length-le ws past in (
-      sym (so_far.number ∙ ap (λ (l : List Wire). lost_from named i (values_in l) (fields_in l)) none),
-      sym (so_far.any ∙ ap (λ (l : List Wire). any_lost named (fields_in l)) none),
-    )
+    let none : drop i ws ≡ [] = drop_of_length-le ws past in
+    sym (so_far.number ∙ ap (λ (l : List Wire). lost_from named i (values_in l) (fields_in l)) none)
+
+pub any_nowhere : (named : StdFields → Option ℕ) (i : ℕ) (ws : List Wire) → length ws ≤ i → LostSoFar named i ws
+    → false ≡ any_lost named (fields_in ws)
+any_nowhere named i ws past so_far =
+    let none : drop i ws ≡ [] = drop_of_length-le ws past in
+    sym (so_far.any ∙ ap (λ (l : List Wire). any_lost named (fields_in l)) none)
