@@ -123,16 +123,16 @@ pub lost_here : (named : StdFields → Option ℕ) (i : ℕ) (ws : List Wire) (w
     → any_lost named (fields_in_one w) ≡ true → LostSoFar named i ws → Some i ≡ lost_parameter named (values_in ws) (fields_in ws)
 lost_here named i ws w within is lost so_far =
     sym (so_far.number
-        ∙ ap (λ (l : List Wire). lost_from named i (values_in l) (fields_in l)) (split ws i w within is)
-        ∙ from-lost named i w (drop (suc i) ws) lost)
+    ∙ ap (λ (l : List Wire). lost_from named i (values_in l) (fields_in l)) (split ws i w within is)
+    ∙ from-lost named i w (drop (suc i) ws) lost)
 
 pub any_here : (named : StdFields → Option ℕ) (i : ℕ) (ws : List Wire) (w : Wire) → i < length ws → w ≡ get_or ws i w
     → any_lost named (fields_in_one w) ≡ true → LostSoFar named i ws → true ≡ any_lost named (fields_in ws)
 any_here named i ws w within is lost so_far =
     sym (so_far.any
-        ∙ ap (λ (l : List Wire). any_lost named (fields_in l)) (split ws i w within is)
-        ∙ any-lost named w (drop (suc i) ws)
-        ∙ ap (λ (b : Bool). b || any_lost named (fields_in (drop (suc i) ws))) lost)
+    ∙ ap (λ (l : List Wire). any_lost named (fields_in l)) (split ws i w within is)
+    ∙ any-lost named w (drop (suc i) ws)
+    ∙ ap (λ (b : Bool). b || any_lost named (fields_in (drop (suc i) ws))) lost)
 
 -- Behind the last value there is none.
 pub lost_nowhere : (named : StdFields → Option ℕ) (i : ℕ) (ws : List Wire) → length ws ≤ i → LostSoFar named i ws

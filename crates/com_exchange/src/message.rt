@@ -170,7 +170,11 @@ impl Message {
     /// Receives the values. Of a request its bytes are read, and the packet of each reference is found by the five
     /// fields that stand there. Where the packets of several parameters are not outstanding, the first of them is
     /// answered. The only other error is want of memory. Source: MS-DCOM, STDOBJREF.
-    pub fn receive<P: Packets>(&self, alloc: Global, packets: &P) -> Result<Rows<Value>, ExchangeError>
+    pub fn receive<P: Packets>(
+        &self,
+        alloc: Global,
+        packets: &P,
+    ) -> Result<Rows<Value>, ExchangeError>
         ensures values { IfOk result (λ values. values ≡ self.now.values) }
         ensures found { IfOk result (λ values. lost_parameter (P.named packets.now) self.now.values self.now.fields
             ≡ None) }
@@ -183,7 +187,12 @@ impl Message {
         match &self.form {
             Form::Values(values) => received_copies(alloc, values.as_slice()),
             Form::Request(written) => {
-                received_in_bytes(alloc, written.kinds.as_slice(), written.bytes.as_slice(), packets)
+                received_in_bytes(
+                    alloc,
+                    written.kinds.as_slice(),
+                    written.bytes.as_slice(),
+                    packets,
+                )
             }
         }
     }
