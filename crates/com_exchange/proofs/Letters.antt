@@ -7,6 +7,7 @@ use Rattle.com_base.specs.declared.guid.Guid.{Guid}
 use Rattle.com_base.specs.declared.standard.StdFields.{StdFields}
 use Rattle.com_base.specs.declared.value.Kind.{Kind}
 use Rattle.com_base.specs.declared.value.Value.{Value}
+use Rattle.com_base.specs.declared.value.Value.TheVariants as value
 use Rattle.orpc.specs.declared.OrpcFault.{OrpcFault}
 use Rattle.orpc.specs.Headers.{request_of}
 use Rattle.ndr_args.specs.declared.wire.Wire.{Wire}
@@ -34,7 +35,7 @@ as-many : (kinds : List Kind) (position : ℕ) (ws : List Wire) (bytes : List �
 as-many [] position [] bytes p = refl
 as-many [] position (w ∷ ws) bytes p = absurd p
 as-many (k ∷ ks) position [] bytes p = absurd p
-as-many (k ∷ ks) position (w ∷ ws) bytes (text, rest, one, front, more) = ap suc (as-many ks _ ws rest more)
+as-many (k ∷ ks) position (w ∷ ws) bytes p = ap suc (as-many ks _ ws p.1 p.4)
 
 pub as_many_read : (kinds : List Kind) (ws : List Wire) (bytes : List ℕ) → IsArgs kinds 0 ws bytes → length ws ≡ length kinds
 as_many_read kinds ws bytes p = as-many kinds 0 ws bytes p
@@ -146,3 +147,17 @@ pub any_nowhere : (named : StdFields → Option ℕ) (i : ℕ) (ws : List Wire) 
 any_nowhere named i ws past so_far =
     let none : drop i ws ≡ [] = drop_of_length-le ws past in
     sym (so_far.any ∙ ap (λ (l : List Wire). any_lost named (fields_in l)) none)
+
+-- Where there are no packets none is lost.
+none-from : (named : StdFields → Option ℕ) (k : ℕ) (vs : List Value) → lost_from named k vs [] ≡ None
+none-from named k [] = refl
+none-from named k (value.Int n ∷ vs) = none-from named (k + 1) vs
+none-from named k (value.Bool b ∷ vs) = none-from named (k + 1) vs
+none-from named k (value.Text t ∷ vs) = none-from named (k + 1) vs
+none-from named k (value.Bytes t ∷ vs) = none-from named (k + 1) vs
+none-from named k (value.Guid g ∷ vs) = none-from named (k + 1) vs
+none-from named k (value.Ref None ∷ vs) = none-from named (k + 1) vs
+none-from named k (value.Ref (Some r) ∷ vs) = refl
+
+pub none_lost : (named : StdFields → Option ℕ) (vs : List Value) → lost_parameter named vs [] ≡ None
+none_lost named vs = none-from named 0 vs

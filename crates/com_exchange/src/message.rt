@@ -170,6 +170,7 @@ impl Message {
     /// Receives the values. Of a request its bytes are read, and the packet of each reference is found by the five
     /// fields that stand there. Where the packets of several parameters are not outstanding, the first of them is
     /// answered. The only other error is want of memory. Source: MS-DCOM, STDOBJREF.
+    #[tactic(auto, using(crate::proofs::Letters::none_lost))]
     pub fn receive<P: Packets>(
         &self,
         alloc: Global,
