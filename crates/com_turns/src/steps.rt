@@ -9,7 +9,8 @@ ghost use Rattle.com_turns.specs.Turns.{body_seen, script_seen};
 ghost use Rattle.com_turns.specs.Work.{HasWork};
 ghost use Rattle.com_reference_moves.specs.Steps.{BodiesWhole, IsWhole};
 
-use crate::{step_of, work_of};
+use crate::step_of;
+use crate::work::{frame_of, work_on};
 use com_base::Memory;
 use com_body::Outcome;
 use com_scene::Actor;
@@ -39,9 +40,15 @@ pub fn body_step(
         ≡ one_served (native_at view.now.scenario.classes (class_at view.now.objects object))
         (map stepped servants.old.items)) }
 {
-    let job = work_of(view, alloc, call, object)?;
-    *step = Some(serve(alloc, servants, &view.scenario.classes, &job)?);
-    Ok(())
+    let frame = frame_of(view, alloc, call, object)?;
+    let job = work_on(view, call, object, frame);
+    match serve(alloc, servants, &view.scenario.classes, &job) {
+        Ok(outcome) => {
+            *step = Some(outcome);
+            Ok(())
+        }
+        Err(error) => Err(error),
+    }
 }
 
 /// Puts the next step of the script of a thread's lane in `step`. The only error is want of memory.

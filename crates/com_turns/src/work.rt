@@ -14,8 +14,13 @@ use com_scene::Actor;
 use com_view::View;
 use std::alloc::Global;
 
-// A copy of the frame of a body.
-fn frame_of(view: &View<'_>, alloc: Global, call: u32, object: u32) -> Result<Frame, Memory>
+/// A copy of the frame of a body. The only error is want of memory.
+pub(crate) fn frame_of(
+    view: &View<'_>,
+    alloc: Global,
+    call: u32,
+    object: u32,
+) -> Result<Frame, Memory>
     requires bodies { BodiesWhole view.now.scene }
     ensures whole { IfOk result (λ frame. HasSlots frame) }
     ensures frame { IfOk result (λ frame. frame ≡ body_at view.now.scene call) }
@@ -23,6 +28,32 @@ fn frame_of(view: &View<'_>, alloc: Global, call: u32, object: u32) -> Result<Fr
     match view.scene.frame(Actor::Body { call, object }) {
         Some(frame) => frame.copy(alloc),
         None => Frame::enter(alloc, &[]),
+    }
+}
+
+/// The job of the body of a call on an object, on a copy of the body's frame and of the object's cells.
+pub(crate) fn work_on(view: &View<'_>, call: u32, object: u32, frame: Frame) -> Job
+    requires work { HasWork view.now call object }
+    requires whole { HasSlots frame }
+    requires frame { frame ≡ body_at view.now.scene call }
+    ensures job { work_seen view.now call object ≡ Some result }
+    ensures class { IsOfItsClass view.now.scenario.classes result }
+    ensures whole { HasSlots result.frame }
+{
+    let class = view.objects.class(object);
+    let Some(declared) = view.scenario.classes.class(class) else {
+        unreachable!()
+    };
+    let Some(issue) = view.calls.issue(call) else {
+        unreachable!()
+    };
+    Job {
+        kind: declared.native,
+        class,
+        iface: issue.iface,
+        method: issue.method,
+        frame,
+        cells: view.scene.cells(object),
     }
 }
 
@@ -35,22 +66,8 @@ pub fn work_of(view: &View<'_>, alloc: Global, call: u32, object: u32) -> Result
     ensures class { IfOk result (λ job. IsOfItsClass view.now.scenario.classes job) }
     ensures whole { IfOk result (λ job. HasSlots job.frame) }
 {
-    let class = view.objects.class(object);
-    let Some(declared) = view.scenario.classes.class(class) else {
-        unreachable!()
-    };
-    let Some(issue) = view.calls.issue(call) else {
-        unreachable!()
-    };
     let frame = frame_of(view, alloc, call, object)?;
-    Ok(Job {
-        kind: declared.native,
-        class,
-        iface: issue.iface,
-        method: issue.method,
-        frame,
-        cells: view.scene.cells(object),
-    })
+    Ok(work_on(view, call, object, frame))
 }
 
 // Whether a frame is that of a body.
