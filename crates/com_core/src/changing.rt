@@ -55,7 +55,7 @@ use com_parts::Change;
 use com_reference_moves::EntrySetting;
 use com_scene::{ActedEntry, Actor};
 use com_servant::Servant;
-use com_turns::{Turn, actor_after, is_filtered, next_turn};
+use com_turns::{Bench, Turn, actor_after, is_filtered, next_turn};
 use std::alloc::Global;
 use std::mem;
 
@@ -561,19 +561,19 @@ impl Running {
         alloc: Global,
         lane: u32,
         servants: &mut Vec<Box<dyn Servant + Send>>,
-        step: &mut Option<Outcome>,
+        bench: &mut Bench,
         turn: &mut Turn,
     ) -> Result<bool, Memory>
-        requires none { step.old ≡ None }
+        requires none { bench.old.step ≡ None }
         requires sound { Sound self.now.parts self.now.entered.counts }
         requires core { IsWholeCore (kept_of scenario.now self.now) }
         requires room { self.now.parts.entries < limit scenario.now }
         requires row { map kind_of servants.old.items ≡ row }
-        ensures whole { IsWhole step.new }
+        ensures whole { IsWhole bench.new.step }
         ensures named { IsNamed self.now.parts.objects self.now.parts.calls }
         ensures turn { IfOk result (λ made. IsNext
             (seen_by scenario.now self.now.parts self.now.fallen.objects self.now.clock)
-            (books_held self.now.ledger) lane step.new (where_true made turn.new)) }
+            (books_held self.now.ledger) lane bench.new.step (where_true made turn.new)) }
         ensures can { IfOk result (λ made. made
             ≡ can_step_in scenario.now (core_state (kept_of scenario.now self.now)) lane) }
         ensures row { map kind_of servants.new.items ≡ row }
@@ -582,7 +582,7 @@ impl Running {
             self.now.parts self.now.fallen.objects self.now.clock) lane) (map stepped servants.old.items)) }
     {
         let view = self.view(scenario);
-        next_turn(&view, &self.ledger, alloc, lane, servants, step, turn)
+        next_turn(&view, &self.ledger, alloc, lane, servants, bench, turn)
     }
 
     // Tries a lane by its turn, which is that of a body or of a script. It has a function of its own, since a turn is
@@ -595,10 +595,10 @@ impl Running {
         alloc: Global,
         lane: u32,
         servants: &mut Vec<Box<dyn Servant + Send>>,
-        step: &mut Option<Outcome>,
+        bench: &mut Bench,
         entry: &mut Entry,
     ) -> Result<bool, Memory>
-        requires none { step.old ≡ None }
+        requires none { bench.old.step ≡ None }
         requires sound { Sound self.old.parts self.old.entered.counts }
         requires few { Few self.old.parts }
         requires core { IsWholeCore (kept_of scenario.now self.old) }
@@ -619,16 +619,16 @@ impl Running {
             self.old.parts self.old.fallen.objects self.old.clock) lane) (map stepped servants.old.items)) }
     {
         let mut turn = Turn::nothing(alloc);
-        let made = self.turn_of(scenario, alloc, lane, servants, step, &mut turn)?;
+        let made = self.turn_of(scenario, alloc, lane, servants, bench, &mut turn)?;
         if !made {
             return Ok(false);
         }
-        self.make_turn(scenario, lane, &mut turn, step, entry)?;
+        self.make_turn(scenario, lane, &mut turn, &mut bench.step, entry)?;
         Ok(true)
     }
 
     /// Tries a lane: makes its next entry, in the place of the entry before it, where the lane can step; else
-    /// nothing has changed. Whether it did. The step of the entry before, which lies in `step`, makes room for
+    /// nothing has changed. Whether it did. The step of the entry before, which lies on the bench, makes room for
     /// that of this one. The only error is want of memory.
     #[tactic(auto, using(crate::proofs::Shown::as_before))]
     pub fn step(
@@ -637,7 +637,7 @@ impl Running {
         alloc: Global,
         lane: u32,
         servants: &mut Vec<Box<dyn Servant + Send>>,
-        step: &mut Option<Outcome>,
+        bench: &mut Bench,
         entry: &mut Entry,
     ) -> Result<bool, Memory>
         requires sound { Sound self.old.parts self.old.entered.counts }
@@ -659,11 +659,11 @@ impl Running {
             ≡ one_served (kind_seen (seen_by scenario.now
             self.old.parts self.old.fallen.objects self.old.clock) lane) (map stepped servants.old.items)) }
     {
-        forget(step);
+        forget(&mut bench.step);
         if self.is_ruled(scenario, lane) {
-            return self.step_by_rule(scenario, alloc, lane, step, entry);
+            return self.step_by_rule(scenario, alloc, lane, &mut bench.step, entry);
         }
-        self.step_by_turn(scenario, alloc, lane, servants, step, entry)
+        self.step_by_turn(scenario, alloc, lane, servants, bench, entry)
     }
 
     /// Makes the clock's entry, where the clock goes on, in the place of the entry before it. The only error is

@@ -19,7 +19,7 @@ ghost use Rattle.com_turns.specs.Turns.{kind_seen, turn_made};
 ghost use Rattle.com_turns.specs.Work.{BodiesWork};
 ghost use Rattle.com_view.specs.Seen.{bare, sight_by};
 
-use crate::steps::{body_step, script_step};
+use crate::steps::{Bench, body_step, script_step};
 use com_base::{Memory, Rows};
 use com_body::{Action, Outcome};
 use com_model::{Deed, Opener};
@@ -279,19 +279,19 @@ fn body_turn<B: Found>(
     alloc: Global,
     lane: u32,
     servants: &mut Vec<Box<dyn Servant + Send>>,
-    step: &mut Option<Outcome>,
+    bench: &mut Bench,
     turn: &mut Turn,
 ) -> Result<(), Memory>
-    requires none { step.old ≡ None }
+    requires none { bench.old.step ≡ None }
     requires room { HasRoom view.now (B.books books.now) }
     requires acts { ActsFit view.now }
     requires body { is_body (top (bare view.now) lane) ≡ true }
     requires bodies { BodiesWhole view.now.scene }
     requires works { BodiesWork view.now }
     requires row { map kind_of servants.old.items ≡ row }
-    ensures whole { IsWhole step.new }
+    ensures whole { IsWhole bench.new.step }
     ensures row { map kind_of servants.new.items ≡ row }
-    ensures turn { OnOk result (IsTurn view.now (B.books books.now) lane step.new turn.new) }
+    ensures turn { OnOk result (IsTurn view.now (B.books books.now) lane bench.new.step turn.new) }
     ensures deed { OnOk result (1 ≤ lane → lane ≤ lanes view.now.scenario →
         Some turn.new.doing.deed ≡ next_by view.now.scenario (sight_by view.now (B.books books.now))
         (lane_sort view.now.scenario lane) lane) }
@@ -301,8 +301,10 @@ fn body_turn<B: Found>(
     let Some(Opener::Enters { call, object, .. }) = view.lanes.top(lane) else {
         unreachable!()
     };
-    body_step(view, alloc, call, object, servants, step)?;
-    let Some(outcome) = step else { unreachable!() };
+    body_step(view, alloc, call, object, servants, bench)?;
+    let Some(outcome) = &bench.step else {
+        unreachable!()
+    };
     step_turn(
         view,
         books,
@@ -315,7 +317,7 @@ fn body_turn<B: Found>(
 }
 
 /// Makes the turn of a lane, in the place of another; whether it makes an entry as things stand: the entry that the
-/// rules give the lane, who makes it by a step, and what goes with it. The step is put in `step`. Where a body is
+/// rules give the lane, who makes it by a step, and what goes with it. The step is put on the bench. Where a body is
 /// innermost in the lane, the servant of its class's kind computes its step, and has made one more then. The only
 /// error is want of memory.
 pub fn next_turn<B: Found>(
@@ -324,18 +326,18 @@ pub fn next_turn<B: Found>(
     alloc: Global,
     lane: u32,
     servants: &mut Vec<Box<dyn Servant + Send>>,
-    step: &mut Option<Outcome>,
+    bench: &mut Bench,
     turn: &mut Turn,
 ) -> Result<bool, Memory>
-    requires none { step.old ≡ None }
+    requires none { bench.old.step ≡ None }
     requires room { HasRoom view.now (B.books books.now) }
     requires acts { ActsFit view.now }
     requires bodies { BodiesWhole view.now.scene }
     requires works { BodiesWork view.now }
     requires row { map kind_of servants.old.items ≡ row }
-    ensures whole { IsWhole step.new }
+    ensures whole { IsWhole bench.new.step }
     ensures row { map kind_of servants.new.items ≡ row }
-    ensures turn { IfOk result (λ made. IsNext view.now (B.books books.now) lane step.new
+    ensures turn { IfOk result (λ made. IsNext view.now (B.books books.now) lane bench.new.step
         (where_true made turn.new)) }
     ensures deed { IfOk result (λ made. 1 ≤ lane → lane ≤ lanes view.now.scenario →
         deed_made (where_true made turn.new) ≡ next_by view.now.scenario (sight_by view.now (B.books books.now))
@@ -345,9 +347,9 @@ pub fn next_turn<B: Found>(
 {
     match view.lanes.top(lane) {
         Some(Opener::Enters { .. }) => {
-            body_turn(view, books, alloc, lane, servants, step, turn)?;
+            body_turn(view, books, alloc, lane, servants, bench, turn)?;
             Ok(true)
         }
-        _ => own_turn(view, books, alloc, lane, step, turn),
+        _ => own_turn(view, books, alloc, lane, &mut bench.step, turn),
     }
 }
