@@ -22,7 +22,7 @@ some_where false t = refl
 pub returns-clause-turn : goal.returns-clause-turn
 returns-clause-turn g c =
     let b = books_held c.args.self.now.ledger in
-    subst (λ (w : Seen). IfOk c.next_turn.result (λ (m : Bool). IsNext w b c.args.lane c.next_turn.new.step (where_true m c.next_turn.new.turn))) c.view-view.ensures.value c.next_turn.ensures.turn
+    subst (λ (w : Seen). IfOk c.next_turn.result (λ (m : Bool). IsNext w b c.args.lane c.next_turn.new.bench.step (where_true m c.next_turn.new.turn))) c.view-view.ensures.value c.next_turn.ensures.turn
 
 pub returns-clause-can : goal.returns-clause-can
 returns-clause-can g c =
@@ -30,11 +30,11 @@ returns-clause-can g c =
     let r = c.args.self.now in
     let b = books_held r.ledger in
     let l = c.args.lane in
-    let turn : IfOk c.next_turn.result (λ (m : Bool). IsNext (seen_by s r.parts r.fallen.objects r.clock) b l c.next_turn.new.step (where_true m c.next_turn.new.turn)) =
-    subst (λ (w : Seen). IfOk c.next_turn.result (λ (m : Bool). IsNext w b l c.next_turn.new.step (where_true m c.next_turn.new.turn))) c.view-view.ensures.value c.next_turn.ensures.turn in
+    let turn : IfOk c.next_turn.result (λ (m : Bool). IsNext (seen_by s r.parts r.fallen.objects r.clock) b l c.next_turn.new.bench.step (where_true m c.next_turn.new.turn)) =
+    subst (λ (w : Seen). IfOk c.next_turn.result (λ (m : Bool). IsNext w b l c.next_turn.new.bench.step (where_true m c.next_turn.new.turn))) c.view-view.ensures.value c.next_turn.ensures.turn in
     IfOk-weaker c.next_turn.result _ (λ (m : Bool). m ≡ can_step_in s (state_read s r.parts b r.fallen.objects r.clock) l)
     (λ m n. some_where m c.next_turn.new.turn
-    ∙ turn_tells s (state_read s r.parts b r.fallen.objects r.clock) r.parts b r.fallen.objects r.clock l c.next_turn.new.step (where_true m c.next_turn.new.turn) c.requires.core.reached c.requires.core.stands c.view-view.ensures.named n) turn
+    ∙ turn_tells s (state_read s r.parts b r.fallen.objects r.clock) r.parts b r.fallen.objects r.clock l c.next_turn.new.bench.step (where_true m c.next_turn.new.turn) c.requires.core.reached c.requires.core.stands c.view-view.ensures.named n) turn
 
 pub next_turn-requires-clause-room : goal.next_turn-requires-clause-room
 next_turn-requires-clause-room g c =
