@@ -304,10 +304,6 @@ pub made_ruled : (w : Seen) (b : Books) (l : ℕ) (made : Bool) (d : Deed) (t : 
 made_ruled w b l true d t h e p i k = turn_ruled w b l true d t h refl e p i k
 made_ruled w b l false d t h e p i k = h
 
-pub none_ruled : (w : Seen) (b : Books) (l : ℕ) (made : Bool) (d : Deed) → IsNext w b l None (turn_made made d) → made ≡ false → lane_next w.scenario (sight_by w b) l ≡ None
-none_ruled w b l true d h m = absurd cc
-none_ruled w b l false d h m = h
-
 -- ---- a body's turn
 
 body_actor : (sort : LaneSort) (l : ℕ) (os : List Opener) (c o a : ℕ) → first os ≡ Some (Enters c o a) → actor sort l os ≡ Body c o
