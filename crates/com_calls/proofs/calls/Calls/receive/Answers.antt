@@ -1,4 +1,4 @@
-use Rattle.std.proofs.Common.{◌≡◌, ◌∙◌, sym, ap, subst, ℕ, Bool, true, false, ◌&&◌, List, [], Option, Some, None}
+use Rattle.std.proofs.Common.{◌≡◌, ◌∙◌, sym, ap, true, ◌&&◌, List, [], Option, Some, None}
 use Rattle.std.specs.Prelude.{is_none}
 use Rattle.std.proofs.lemmas.Result.{IfOk-weaker}
 use Rattle.com_base.specs.declared.standard.StdFields.{StdFields}
@@ -8,7 +8,7 @@ use Rattle.com_model.specs.declared.keeps.Admission.{Admission}
 use Rattle.com_model.specs.declared.keeps.Ending.{Ending}
 use Rattle.com_model.specs.Lists.{from_one}
 use Rattle.com_calls.specs.Rows.{RowView, row_at}
-use Rattle.com_calls.specs.Kept.{Kept, fields_at, is_open}
+use Rattle.com_calls.specs.Kept.{Kept, fields_at}
 use Rattle.com_calls.proofs.RowReads.{read_or, read}
 use Rattle.com_calls.proofs.Requested.{lost_fields, open_fields, requested_at, requested_none}
 use Rattle.com_calls.proofs.calls.Calls.receive.Goals as goal
