@@ -6,3 +6,9 @@ pub mod Ranging
 pub mod Rereading
 mod Answering
 pub mod KindLemmas
+mod Lists
+mod Kepts
+mod Rowing
+mod Aheads
+mod Outbounds
+mod Inbounds

@@ -5,3 +5,6 @@ pub mod Received
 pub mod Messages
 pub mod Replies
 pub mod Answers
+pub mod Passing
+pub mod Outbound
+pub mod Inbound

@@ -1,12 +1,15 @@
 //! Values to bytes and back: the requests and replies of calls that are marshalled, and the values that
-//! travel in them. The tables of references stand elsewhere: the caller gives the fields of the packets that
-//! carry the references.
+//! travel in them. Of a call the caller gives the fields of the packets that carry the references. `send` and
+//! `receive` make and take the packets themselves, in tables of references that the caller lends.
 #![tactic(auto)]
 
 mod answer;
+mod inbound;
 pub mod laws;
 mod message;
+mod outbound;
 mod packets;
+mod passing;
 mod preview;
 mod ranges;
 mod receiving;
@@ -16,7 +19,9 @@ mod writing;
 
 pub use answer::{Answer, Answered};
 pub use com_base::Memory;
+pub use inbound::receive;
 pub use message::Message;
+pub use outbound::send;
 pub use packets::{ExchangeError, Packets};
 pub use preview::{Outgoing, packet_refs};
 pub use receiving::{Request, RequestError, read_request};

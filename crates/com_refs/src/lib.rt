@@ -17,8 +17,9 @@ mod places;
 mod readings;
 mod registering;
 
-ghost use Rattle.std.specs.Prelude.{◌≡◌, ◌+◌, ◌<◌, ◌≤◌, ◌&&◌, ◌==◌, ℕ, Bool, [], length, OnOk, OnErr};
+ghost use Rattle.std.specs.Prelude.{◌≡◌, ◌+◌, ◌*◌, ◌<◌, ◌≤◌, ◌&&◌, ◌==◌, ℕ, Bool, [], length, OnOk, OnErr};
 ghost use Rattle.std.specs.Prelude.{IsOk};
+ghost use Rattle.com_base.specs.declared.limits.TheConstants.{PUBLIC_REFERENCES};
 ghost use Rattle.com_refs_holders.specs.Tables.{Tables, books_of, owns_of};
 ghost use Rattle.com_refs_holders.specs.Places.{Counts, OneMore, OneLess, SamePlaces};
 ghost use Rattle.com_refs_books.specs.Counting.{count_if};
@@ -140,6 +141,8 @@ impl Refs {
     pub fn bounds(&self)
         ensures held { (o : ℕ) → 0 < holders_of self.now o → o ≤ length self.now.objects }
         ensures packets { length self.now.packets ≤ self.now.issued }
+        ensures proxies { (a o i : ℕ) → (books_of self.now).proxy a o i ≤
+            PUBLIC_REFERENCES * self.now.issued }
     {
         self.holders.stands();
     }
