@@ -5,6 +5,7 @@ pub mod Receivings
 pub mod Ranging
 pub mod Rereading
 mod Answering
+pub mod Letters
 pub mod KindLemmas
 mod Lists
 mod Kepts
