@@ -1,7 +1,8 @@
 -- The packets that are received, one after another.
 use Rattle.std.specs.Prelude.{map, is_none, is_some, option_copied, slice_set}
+use Rattle.std.specs.Int.{from_le_bytes, w64}
 use Rattle.std.specs.List.{AllByRecursion, IsDistinct}
-use Rattle.std.proofs.Common.{◌≡◌, ℕ, suc, ◌+◌, ◌<◌, ◌≤◌, Bool, true, false, ◌&&◌, ◌==◌, if◌then◌else◌, List, [], ◌∷◌, ◌++◌, length, get_or, take, drop, slice_index_or, Option, Some, None, Result, Ok, Err, refl, sym, ap, subst, ◌∙◌, append_assoc, append-nil, arith}
+use Rattle.std.proofs.Common.{◌≡◌, ℕ, suc, ◌+◌, ◌<◌, ◌≤◌, ◌^◌, Bool, true, false, ◌&&◌, ◌==◌, if◌then◌else◌, List, [], ◌∷◌, ◌++◌, length, get_or, take, drop, slice_index_or, Option, Some, None, Result, Ok, Err, refl, sym, ap, subst, ◌∙◌, append_assoc, append-nil, arith}
 use Rattle.std.proofs.lemmas.Grind.{common_steps}
 use Rattle.std.proofs.lemmas.List.{length-append, length-map, map-append}
 use Rattle.std.proofs.Math.ListN.{drop_of_length-le}
@@ -19,7 +20,7 @@ use Rattle.com_refs_holders.specs.Places.{OneMore}
 use Rattle.com_refs_holders.specs.Tables.{SameSets, Tables, books_of, outstanding_in, owns_of}
 use Rattle.com_stub.specs.StubRows.{is_connected}
 use Rattle.com_refs.specs.Found.{shown_packet}
-use Rattle.com_refs.proofs.Finding.{packet_is}
+use Rattle.com_refs.proofs.Finding.{packet_is, packets_many}
 use Rattle.ndr_args.specs.declared.wire.ArgFault.{ArgFault}
 use Rattle.ndr_args.specs.declared.wire.Wire.{Wire}
 use Rattle.ndr_args.specs.declared.wire.Wire.TheVariants as wire
@@ -30,7 +31,7 @@ use Rattle.com_exchange.specs.Inbound.{AreArguments, arguments_read, named_list,
 use Rattle.com_exchange.specs.Messages.{lost_from, lost_parameter}
 use Rattle.com_exchange.specs.Passing.{MorePlaces, fields_of, has_fields, packet_with}
 use Rattle.com_exchange.specs.Received.{fields_in, fields_in_one, fields_read, values_in}
-use Rattle.com_exchange.proofs.Kepts.{data_of_fields, and_left, and_right}
+use Rattle.com_exchange.proofs.Kepts.{and_left, and_right, data_of_fields, first_none, first_some, number_of_fields}
 use Rattle.com_exchange.proofs.Lists.{split_at, take_past}
 use Rattle.com_exchange.proofs.Rowing.{image_more, more_none, more_one, row_more}
 
@@ -104,8 +105,31 @@ first_holds test (x ∷ xs) p e = elim (test x) as (λ b. test x ≡ b → test 
   | false ↦ λ h. let rest : first_that test xs ≡ Some p = rw h at e in first_holds test xs p rest
 ] refl
 
+-- The first of the numbers up to one is none above it.
+first_high : (test : ℕ → Bool) (m p : ℕ) → first_that test (one_to m) ≡ Some p → p ≤ m
+first_high test 0 p e = cc
+first_high test (suc m) p e = elim (first_that test (one_to m)) as (λ o. first_that test (one_to m) ≡ o → p ≤ suc m) [
+  | None ↦ λ h.
+      let last : (if test (suc m) then Some (suc m) else None) ≡ Some p = sym (first_none test (one_to m) (suc m) h) ∙ e in
+      elim (test (suc m)) as (λ b. test (suc m) ≡ b → p ≤ suc m) [
+        | true ↦ λ b. let same : Some (suc m) ≡ Some p = rw b at last in let it : suc m ≡ p = cc in omega (arith, it)
+        | false ↦ λ b. let none : None ≡ Some p = rw b at last in cc
+      ] refl
+  | Some q ↦ λ h.
+      let same : Some q ≡ Some p = sym (first_some test (one_to m) (suc m ∷ []) q h) ∙ e in
+      let it : q ≡ p = cc in
+      let low : q ≤ m = first_high test m q h in
+      omega (arith, it, low)
+] refl
+
 named_has : (c : C.Tables) (t : Tables) (f : StdFields) (p : ℕ) → packet_with c t f ≡ Some p → has_fields c t f p ≡ true
 named_has c t f p e = first_holds (has_fields c t f) (one_to (length (books_of t).packets)) p e
+
+-- A packet has the number that stands in its fields.
+pub named_number : (c : C.Tables) (t : Tables) (f : StdFields) (p : ℕ) → length t.packets < 2 ^ 64 → packet_with c t f ≡ Some p → p ≡ from_le_bytes w64 f.ipid.data4
+named_number c t f p few e =
+    let high : p ≤ length (books_of t).packets = first_high (has_fields c t f) (length (books_of t).packets) p e in
+    number_of_fields c t f p (omega (arith, few, high, packets_many t)) (named_has c t f p e)
 
 abbrev pub Outstanding : Tables → ℕ → Type 0
 Outstanding t p = (packet (books_of t) p).outstanding ≡ true

@@ -34,14 +34,14 @@ and_right false t h = cc
 
 -- ---- the first number that passes a test
 
-first_none : (f : ℕ → Bool) (xs : List ℕ) (x : ℕ) → first_that f xs ≡ None → first_that f (xs ++ x ∷ []) ≡ (if f x then Some x else None)
+pub first_none : (f : ℕ → Bool) (xs : List ℕ) (x : ℕ) → first_that f xs ≡ None → first_that f (xs ++ x ∷ []) ≡ (if f x then Some x else None)
 first_none f [] x h = refl
 first_none f (y ∷ ys) x h =
     either (f y) _
     (λ holds. let fails : Some y ≡ None = rw holds at h in cc)
     (λ fails. let rest : first_that f ys ≡ None = rw fails at h in rw fails (first_none f ys x rest))
 
-first_some : (f : ℕ → Bool) (xs ys : List ℕ) (n : ℕ) → first_that f xs ≡ Some n → first_that f (xs ++ ys) ≡ Some n
+pub first_some : (f : ℕ → Bool) (xs ys : List ℕ) (n : ℕ) → first_that f xs ≡ Some n → first_that f (xs ++ ys) ≡ Some n
 first_some f [] ys n h = cc
 first_some f (x ∷ xs) ys n h =
     either (f x) _
@@ -99,7 +99,7 @@ data_of_fields f g h =
     (and_left ((a.data1 == b.data1 && a.data2 == b.data2) && a.data3 == b.data3) (bytes_eq a.data4 b.data4) (ipid_of_fields f g h))) in
     eqb-true a.data1 b.data1 first
 
-number_of_fields : (c : C.Tables) (t : Tables) (f : StdFields) (p : ℕ) → p < 2 ^ 64 → has_fields c t f p ≡ true → p ≡ from_le_bytes w64 f.ipid.data4
+pub number_of_fields : (c : C.Tables) (t : Tables) (f : StdFields) (p : ℕ) → p < 2 ^ 64 → has_fields c t f p ≡ true → p ≡ from_le_bytes w64 f.ipid.data4
 number_of_fields c t f p short h =
     let g : StdFields = fields_of c t p in
     let same : same_fields f g ≡ true = and_right (packet (books_of t) p).outstanding (same_fields f g) h in

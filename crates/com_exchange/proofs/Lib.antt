@@ -8,8 +8,10 @@ mod Answering
 pub mod Letters
 pub mod KindLemmas
 mod Lists
+mod Owners
 mod Kepts
 mod Rowing
 mod Aheads
 mod Outbounds
 mod Inbounds
+mod Roundtrips

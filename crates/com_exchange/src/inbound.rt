@@ -37,11 +37,7 @@ fn wires_of(alloc: Global, kinds: &[Kind], bytes: &[u8]) -> Result<Vec<Wire>, Me
 }
 
 // Appends the packet that a value travelled as, where it is a reference that is not null.
-fn append_named<P: Packets>(
-    numbers: &mut Vec<u32>,
-    wire: &Wire,
-    packets: &P,
-) -> Result<(), Memory>
+fn append_named<P: Packets>(numbers: &mut Vec<u32>, wire: &Wire, packets: &P) -> Result<(), Memory>
     ensures { OnOk result (numbers.new.items
         ≡ numbers.old.items ++ packets_named (P.named packets.now) (fields_in_one wire.now)) }
 {
@@ -56,11 +52,7 @@ fn append_named<P: Packets>(
 
 // The packets that values travelled as, in their order. The only error is want of memory.
 #[tactic(auto, using(crate::proofs::Inbounds::named_more, crate::proofs::Inbounds::named_all))]
-fn packets_named<P: Packets>(
-    alloc: Global,
-    wires: &[Wire],
-    packets: &P,
-) -> Result<Vec<u32>, Memory>
+fn packets_named<P: Packets>(alloc: Global, wires: &[Wire], packets: &P) -> Result<Vec<u32>, Memory>
     ensures { IfOk result (λ numbers. numbers.items
         ≡ packets_named (P.named packets.now) (fields_in wires.now)) }
 {
@@ -182,6 +174,6 @@ pub fn receive(
     let Ok(()) = refs.reserve(numbers.len() as u32) else {
         return Err(ExchangeError::Memory);
     };
-    unmarshal_all(refs, apartment, &numbers);
+    unmarshal_all(refs, apartment, numbers.as_slice());
     Ok(values)
 }

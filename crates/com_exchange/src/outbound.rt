@@ -1,19 +1,23 @@
 //! What an apartment sends: the bytes of values, and new packets for the references among them.
-ghost use Rattle.std.specs.Prelude.{◌≡◌, ◌+◌, ◌++◌, ◌∷◌, [], ◌<◌, ◌≤◌, ◌^◌, ℕ, IfOk, OnErr, OnOk, length, map};
+ghost use Rattle.std.specs.Prelude.{◌≡◌, ◌+◌, ◌++◌, ◌∷◌, [], ◌<◌, ◌≤◌, ◌^◌, ℕ, IfOk, Ok, OnErr, OnOk, length, map};
 ghost use Rattle.std.specs.Prelude.{slice_index_or, vec_capacity, vec_len};
 ghost use Rattle.std.specs.List.{AllByRecursion};
 ghost use Rattle.com_refs_books.specs.Changes.{entered_rows, marshal_all, new_packet};
 ghost use Rattle.com_refs_holders.specs.Places.{SamePlaces};
 ghost use Rattle.com_refs_holders.specs.Tables.{SameSets, Tables, books_of, owns_of};
 ghost use Rattle.com_stub.specs.StubRows.{is_connected};
-ghost use Rattle.com_model.specs.Values.{carried};
+ghost use Rattle.ndr_args.specs.Reading.{args_of};
+ghost use Rattle.com_model.specs.Values.{carried, wires};
+ghost use Rattle.com_exchange.specs.Inbound.{NameApart};
 ghost use Rattle.com_exchange.specs.Messages.{TravelAs};
 ghost use Rattle.com_exchange.specs.Outbound.{CanMarshal, field_ahead, fields_ahead, next_numbers, sent_bytes};
-ghost use Rattle.com_exchange.specs.Passing.{fields_of};
+ghost use Rattle.com_exchange.specs.Passing.{fields_of, packet_with};
+ghost use Rattle.com_exchange.specs.Received.{reference_in_fields};
 ghost use Rattle.com_exchange.specs.Previews.{IsOutgoing, reference_of};
 
 use crate::passing::{fields_as, owner_in_bytes};
 use crate::preview::{Outgoing, packet_refs};
+use crate::ranges::are_in_range;
 use crate::sending::references_in;
 use crate::writing::put_values;
 use com_base::{ByteList, Kind, MarshalMode, Memory, RefValue, Rows, StdFields, Value};
@@ -93,7 +97,12 @@ fn field_ahead(
 {
     let number = refs.packets() + 1 + at as u32;
     let owner = owner_in_bytes(refs, row.object);
-    fields_as(classes, owner, new_packet(row, count_at(counts, at)), number)
+    fields_as(
+        classes,
+        owner,
+        new_packet(row, count_at(counts, at)),
+        number,
+    )
 }
 
 // The fields of the packets of references, before they are made, each with as many public references as is given.
@@ -169,7 +178,8 @@ fn packets_ahead(
 ) -> Result<Vec<StdFields>, Memory>
     requires marshal { AllByRecursion (CanMarshal refs.now) carried.now }
     requires few { refs.now.issued + length carried.now ≤ MOST_ISSUED }
-    ensures { IfOk result (λ fields. (after : Tables)
+    ensures named { IfOk result (λ fields. map reference_in_fields fields.items ≡ carried.now) }
+    ensures fields { IfOk result (λ fields. (after : Tables)
         → books_of after
         ≡ entered_rows (owns_of refs.now.objects) (books_of refs.now) (marshal_all apartment carried.now)
         → SamePlaces refs.now after
@@ -178,17 +188,13 @@ fn packets_ahead(
     refs.bounds();
     let rows = all_outgoing(alloc, refs, apartment, carried)?;
     let counts = packet_refs(alloc, rows.as_slice())?;
-    fields_ahead(alloc, classes, refs, counts.as_slice(), rows.as_slice())
+    let fields = fields_ahead(alloc, classes, refs, counts.as_slice(), rows.as_slice())?;
+    Ok(fields)
 }
 
 // Makes room for so many packets, and appends the bytes. The only error is want of memory, and then neither the tables
 // nor the list changed.
-fn append(
-    refs: &mut Refs,
-    count: u32,
-    bytes: &[u8],
-    out: &mut ByteList,
-) -> Result<(), Memory>
+fn append(refs: &mut Refs, count: u32, bytes: &[u8], out: &mut ByteList) -> Result<(), Memory>
     ensures room { OnOk result (count ≤ refs.new.spare) }
     ensures out { OnOk result (out.new ≡ out.old ++ bytes.now) }
     ensures same { refs.new ≡ record refs.old { spare = refs.new.spare } }
@@ -216,6 +222,9 @@ fn append(
 /// bytes. The object of each reference is connected, and has the reference's interface in its set. So many more
 /// references as there are values may still be given. The only error is want of memory, and then neither the tables
 /// nor `out` changed.
+///
+/// What was sent can be received: the bytes are arguments of the kinds and say these values, and no two of the
+/// references name one packet.
 /// Source: MS-DCOM 2.2.18.2, "STDOBJREF", and 3.2.4; Essential COM, chapter 5; CoMarshalInterface.
 pub fn send(
     alloc: Global,
@@ -233,6 +242,13 @@ pub fn send(
         ≡ next_numbers refs.old (length (carried values.now))) }
     ensures bytes { IfOk result (λ numbers. out.new
         ≡ out.old ++ sent_bytes classes.now refs.new numbers values.now) }
+    ensures arguments { IfOk result (λ numbers. args_of kinds.now
+        (sent_bytes classes.now refs.new numbers values.now)
+        ≡ Ok (wires values.now (map (fields_of classes.now refs.new) numbers))) }
+    ensures named { IfOk result (λ numbers. map reference_in_fields
+        (map (fields_of classes.now refs.new) numbers) ≡ carried values.now) }
+    ensures apart { IfOk result (λ numbers. (later : Tables) → length later.packets < 2 ^ 64
+        → NameApart (packet_with classes.now later) (map (fields_of classes.now refs.new) numbers)) }
     ensures books { OnOk result (books_of refs.new
         ≡ entered_rows (owns_of refs.old.objects) (books_of refs.old)
         (marshal_all apartment (carried values.now))) }
@@ -243,11 +259,12 @@ pub fn send(
     ensures out_err { OnErr result (out.new ≡ out.old) }
 {
     let carried = references_in(alloc, values)?;
-    let fields = packets_ahead(alloc, classes, refs, apartment, &carried)?;
+    let fields = packets_ahead(alloc, classes, refs, apartment, carried.as_slice())?;
     let mut numbers = Vec::with_capacity(alloc, carried.len())?;
     let mut bytes = ByteList::new(alloc);
-    put_values(values, &fields, &mut bytes)?;
+    are_in_range(values, fields.as_slice());
+    put_values(values, fields.as_slice(), &mut bytes)?;
     append(refs, carried.len() as u32, bytes.as_slice(), out)?;
-    marshal_all(refs, &mut numbers, apartment, &carried);
+    marshal_all(refs, &mut numbers, apartment, carried.as_slice());
     Ok(Rows::from_vec(numbers))
 }

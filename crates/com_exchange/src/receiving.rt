@@ -1,6 +1,5 @@
 //! Reading a request: its causality, its values, and the packets that carry the references.
-ghost use Rattle.std.specs.Prelude.{◌≡◌, ◌≤◌, ◌++◌, IfOk, Ok, OnOk, drop, is_some, length};
-ghost use Rattle.com_base.specs.declared.limits.TheConstants.{PARAMETER_LIMIT};
+ghost use Rattle.std.specs.Prelude.{◌≡◌, ◌<◌, ◌^◌, ◌++◌, IfOk, Ok, OnOk, drop, is_some, length};
 ghost use Rattle.ndr_args.specs.Reading.{args_of};
 ghost use Rattle.com_exchange.specs.Messages.{IsRead, any_lost, lost_parameter};
 ghost use Rattle.com_exchange.specs.Received.{reference_in_fields, packet_in_fields, values_in, packets_in};
@@ -144,7 +143,7 @@ fn is_lost<P: Packets>(wire: &Wire, packets: &P) -> bool
 // The number of the first value, from 0, that travelled as a packet that is not outstanding.
 #[tactic(auto, using(crate::proofs::Letters::lost_none, crate::proofs::Letters::lost_more, crate::proofs::Letters::lost_here, crate::proofs::Letters::lost_nowhere))]
 pub(crate) fn first_lost<P: Packets>(wires: &[Wire], packets: &P) -> Option<u32>
-    requires { length wires.now ≤ PARAMETER_LIMIT }
+    requires { length wires.now < 2 ^ 32 }
     ensures number { result
         ≡ lost_parameter (P.named packets.now) (values_in wires.now) (fields_in wires.now) }
     ensures any { is_some result ≡ any_lost (P.named packets.now) (fields_in wires.now) }

@@ -164,7 +164,11 @@ pub(crate) fn packet_at(packets: &[StdFields], at: usize) -> Option<&StdFields>
 }
 
 // Appends values as a stream of their own, each reference that is not null with the next packet.
-pub(crate) fn put_values(values: &[Value], packets: &[StdFields], out: &mut ByteList) -> Result<(), Memory>
+pub(crate) fn put_values(
+    values: &[Value],
+    packets: &[StdFields],
+    out: &mut ByteList,
+) -> Result<(), Memory>
     requires travel { All CanTravel values.now }
     requires referents { 0x20000 + 4 * length values.now < 2 ^ 32 }
     ensures { OnOk result (out.new ≡ out.old ++ written_args (wires values.now packets.now)) }
