@@ -1,7 +1,7 @@
 -- The packets that references get are those that were foreseen.
 use Rattle.std.specs.Prelude.{map}
 use Rattle.std.specs.List.{AllByRecursion}
-use Rattle.std.proofs.Common.{◌≡◌, ℕ, suc, ◌+◌, ◌<◌, ◌≤◌, Bool, true, List, [], ◌∷◌, ◌++◌, length, get_or, drop, slice_index_or, refl, sym, ap, subst, ◌∙◌, append_assoc, append-nil, add-one, arith}
+use Rattle.std.proofs.Common.{◌≡◌, ℕ, zero, suc, ◌+◌, ◌<◌, ◌≤◌, Bool, true, List, [], ◌∷◌, ◌++◌, length, get_or, drop, slice_index_or, refl, sym, ap, subst, ◌∙◌, append_assoc, append-nil, add-one, arith}
 use Rattle.std.proofs.lemmas.List.{append_cancel_left, map-append, length-append}
 use Rattle.std.proofs.lemmas.Grind.{common_steps}
 use Rattle.std.proofs.Math.ListN.{drop_of_length-le}
@@ -94,15 +94,15 @@ fields_numbered F b qs (p ∷ ps) e =
 -- ---- what is foreseen
 
 drop_first : (refs rest : List ℕ) (n k : ℕ) → drop k refs ≡ n ∷ rest → slice_index_or refs k 0 ≡ n
-drop_first [] rest n 0 e = cc
+drop_first [] rest n zero e = cc
 drop_first [] rest n (suc k) e = cc
-drop_first (y ∷ ys) rest n 0 e = cc
+drop_first (y ∷ ys) rest n zero e = cc
 drop_first (y ∷ ys) rest n (suc k) e = drop_first ys rest n k e
 
 drop_rest : (refs rest : List ℕ) (n k : ℕ) → drop k refs ≡ n ∷ rest → drop (suc k) refs ≡ rest
-drop_rest [] rest n 0 e = cc
+drop_rest [] rest n zero e = cc
 drop_rest [] rest n (suc k) e = cc
-drop_rest (y ∷ ys) rest n 0 e = cc
+drop_rest (y ∷ ys) rest n zero e = cc
 drop_rest (y ∷ ys) rest n (suc k) e = drop_rest ys rest n k e
 
 -- The fields of a packet by the owner of its object, as the tables have it before.

@@ -2,7 +2,7 @@
 use Rattle.std.specs.Prelude.{map, is_none, is_some, option_copied, slice_set}
 use Rattle.std.specs.Int.{from_le_bytes, w64}
 use Rattle.std.specs.List.{AllByRecursion, IsDistinct}
-use Rattle.std.proofs.Common.{◌≡◌, ℕ, suc, ◌+◌, ◌<◌, ◌≤◌, ◌^◌, Bool, true, false, ◌&&◌, ◌==◌, if◌then◌else◌, List, [], ◌∷◌, ◌++◌, length, get_or, take, drop, slice_index_or, Option, Some, None, Result, Ok, Err, refl, sym, ap, subst, ◌∙◌, append_assoc, append-nil, arith}
+use Rattle.std.proofs.Common.{◌≡◌, ℕ, zero, suc, ◌+◌, ◌<◌, ◌≤◌, ◌^◌, Bool, true, false, ◌&&◌, ◌==◌, if◌then◌else◌, List, [], ◌∷◌, ◌++◌, length, get_or, take, drop, slice_index_or, Option, Some, None, Result, Ok, Err, refl, sym, ap, subst, ◌∙◌, append_assoc, append-nil, arith}
 use Rattle.std.proofs.lemmas.Grind.{common_steps}
 use Rattle.std.proofs.lemmas.List.{length-append, length-map, map-append}
 use Rattle.std.proofs.Math.ListN.{drop_of_length-le}
@@ -107,7 +107,7 @@ first_holds test (x ∷ xs) p e = elim (test x) as (λ b. test x ≡ b → test 
 
 -- The first of the numbers up to one is none above it.
 first_high : (test : ℕ → Bool) (m p : ℕ) → first_that test (one_to m) ≡ Some p → p ≤ m
-first_high test 0 p e = cc
+first_high test zero p e = cc
 first_high test (suc m) p e = elim (first_that test (one_to m)) as (λ o. first_that test (one_to m) ≡ o → p ≤ suc m) [
   | None ↦ λ h.
       let last : (if test (suc m) then Some (suc m) else None) ≡ Some p = sym (first_none test (one_to m) (suc m) h) ∙ e in
@@ -194,22 +194,22 @@ object_of_row t n p e = ap (λ (k : Packet). k.object) (ap shown_packet (sym e) 
 
 set_other : (ps : List Packet) (p q : ℕ) → (p == q) ≡ false → slice_index_or (slice_set ps p no_packet) q no_packet ≡ slice_index_or ps q no_packet
 set_other [] p q e = refl
-set_other (x ∷ ps) 0 0 e = cc
-set_other (x ∷ ps) 0 (suc q) e = refl
-set_other (x ∷ ps) (suc p) 0 e = refl
+set_other (x ∷ ps) zero zero e = cc
+set_other (x ∷ ps) zero (suc q) e = refl
+set_other (x ∷ ps) (suc p) zero e = refl
 set_other (x ∷ ps) (suc p) (suc q) e = set_other ps p q e
 
 packet-of : List Packet → ℕ → Packet
-packet-of ps 0 = no_packet
+packet-of ps zero = no_packet
 packet-of ps (suc q) = slice_index_or ps q no_packet
 
 packet_in_list : (b : Books) (q : ℕ) → packet b q ≡ packet-of b.packets q
-packet_in_list b 0 = refl
+packet_in_list b zero = refl
 packet_in_list b (suc q) = refl
 
 ended_other : (ps : List Packet) (p q : ℕ) → (p == q) ≡ false → packet-of (set_from_one ps p no_packet) q ≡ packet-of ps q
-ended_other ps 0 q e = refl
-ended_other ps (suc p) 0 e = refl
+ended_other ps zero q e = refl
+ended_other ps (suc p) zero e = refl
 ended_other ps (suc p) (suc q) e = set_other ps p q e
 
 ends : (owned : Bool) (b : Books) (m : MarshalMode) (a p o i q : ℕ) → (p == q) ≡ false
@@ -279,12 +279,12 @@ stay_on a p t v u (q ∷ qs) apart kept after = (other_stays v u a p q apart.0 a
 apart_at : (ps : List ℕ) (i p : ℕ) → i < length ps → p ≡ get_or ps i p → IsDistinct (λ x y. x == y) ps → AllByRecursion (λ q. (p == q) ≡ false) (drop (suc i) ps)
 unfolding IsDistinct
 apart_at [] i p within is apart = absurd (omega (arith, within))
-apart_at (x ∷ ps) 0 p within is apart = subst (λ (y : ℕ). AllByRecursion (λ q. (y == q) ≡ false) ps) (sym is) apart.0
+apart_at (x ∷ ps) zero p within is apart = subst (λ (y : ℕ). AllByRecursion (λ q. (y == q) ≡ false) ps) (sym is) apart.0
 apart_at (x ∷ ps) (suc i) p within is apart = apart_at ps i p (omega (arith, within)) is apart.1
 
 pub stands_at : (t : Tables) (ps : List ℕ) (i p : ℕ) → i < length ps → p ≡ get_or ps i p → AllByRecursion (Outstanding t) ps → Outstanding t p
 stands_at t [] i p within is all = absurd (omega (arith, within))
-stands_at t (x ∷ ps) 0 p within is all = subst (λ (y : ℕ). Outstanding t y) (sym is) all.0
+stands_at t (x ∷ ps) zero p within is all = subst (λ (y : ℕ). Outstanding t y) (sym is) all.0
 stands_at t (x ∷ ps) (suc i) p within is all = stands_at t ps i p (omega (arith, within)) is all.1
 
 -- The next packet is as it was.

@@ -8,7 +8,6 @@ mod Answering
 pub mod Letters
 pub mod KindLemmas
 mod Lists
-mod Owners
 mod Kepts
 mod Rowing
 mod Aheads

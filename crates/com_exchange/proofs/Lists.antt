@@ -23,6 +23,12 @@ all_of P Q (x ∷ xs) f all = (f x all.0, all_of P Q xs f all.1)
 pub split_at : {X : Type 0} (xs : List X) (i : ℕ) (x : X) → i < length xs → x ≡ get_or xs i x → drop i xs ≡ x ∷ drop (suc i) xs
 split_at xs i x within is = drop-cons xs i x within ∙ ap (λ y. y ∷ drop (suc i) xs) (sym is)
 
+-- What is read within a list does not depend on what is read past its end.
+pub read_same : {X : Type 0} (xs : List X) (i : ℕ) (d e : X) → i < length xs → get_or xs i d ≡ get_or xs i e
+read_same [] i d e within = absurd (omega (arith, within))
+read_same (x ∷ xs) zero d e within = refl
+read_same (x ∷ xs) (suc i) d e within = read_same xs i d e (omega (arith, within))
+
 pub numbers_more : (n k : ℕ) → numbers_from n (k + 1) ≡ numbers_from n k ++ (n + k) ∷ []
 numbers_more n zero = let e : n ≡ n + 0 = omega arith in ap (λ (m : ℕ). m ∷ []) e
 numbers_more n (suc k) =

@@ -1,7 +1,7 @@
 -- The references that are sent, one after another.
 use Rattle.std.specs.Prelude.{map}
 use Rattle.std.specs.List.{AllByRecursion}
-use Rattle.std.proofs.Common.{◌≡◌, ℕ, ◌+◌, ◌*◌, ◌<◌, ◌≤◌, ◌^◌, Bool, true, suc, Some, None, List, [], ◌∷◌, ◌++◌, length, get_or, take, refl, sym, ap, subst, ◌∙◌, append_assoc, append-nil, arith}
+use Rattle.std.proofs.Common.{◌≡◌, ℕ, zero, ◌+◌, ◌*◌, ◌<◌, ◌≤◌, ◌^◌, Bool, true, suc, Some, None, List, [], ◌∷◌, ◌++◌, length, get_or, take, refl, sym, ap, subst, ◌∙◌, append_assoc, append-nil, arith}
 use Rattle.std.proofs.lemmas.Grind.{common_steps}
 use Rattle.std.proofs.lemmas.List.{length-append, map-append, take_more}
 use Rattle.com_base.specs.declared.limits.TheConstants.{PUBLIC_REFERENCES}
@@ -146,7 +146,7 @@ marshalled_all a rs i t v old new past within f = subst (λ (n : ℕ). Marshalle
 pub can_later : (t v : Tables) (rs : List RefValue) (i : ℕ) (r : RefValue) → i < length rs → r ≡ get_or rs i r
     → AllByRecursion (CanMarshal t) rs → ((x : ℕ) → is_connected v.stubs x ≡ is_connected t.stubs x) → SameSets t v → CanMarshal v r
 can_later t v [] i r within is all live sets = absurd (omega (arith, within))
-can_later t v (x ∷ rs) 0 r within is all live sets =
+can_later t v (x ∷ rs) zero r within is all live sets =
     subst (λ (y : RefValue). CanMarshal v y) (sym is) (live x.object ∙ all.0.0, sets x.object x.iface ∙ all.0.1)
 can_later t v (x ∷ rs) (suc i) r within is all live sets = can_later t v rs i r (omega (arith, within)) is all.1 live sets
 
@@ -160,7 +160,7 @@ each_travels (k ∷ ks) [] p = absurd p
 each_travels (k ∷ ks) (v ∷ vs) p = λ i d h. at i d h
   where
     at : (i : ℕ) (d : Value) → i < length (v ∷ vs) → CanTravel (get_or (v ∷ vs) i d)
-    at 0 d h = p.1
+    at zero d h = p.1
     at (suc i) d h = each_travels ks vs p.2 i d (omega (arith, h))
 
 pub carried_few : (vs : List Value) → length (carried vs) ≤ length vs
@@ -180,6 +180,9 @@ Roomier t v = v ≡ record t { spare = v.spare }
 
 pub roomier_owns : (t v : Tables) → Roomier t v → owns_of v.objects ≡ owns_of t.objects
 roomier_owns t v e = ap (λ (w : Tables). owns_of w.objects) e
+
+pub roomier_can : (t v : Tables) (rs : List RefValue) → Roomier t v → AllByRecursion (CanMarshal t) rs → AllByRecursion (CanMarshal v) rs
+roomier_can t v rs e all = subst (λ (w : Tables). AllByRecursion (CanMarshal w) rs) (sym e) all
 
 pub roomier_places : (t v u : Tables) → Roomier t v → SamePlaces v u → SamePlaces t u
 roomier_places t v u e same =

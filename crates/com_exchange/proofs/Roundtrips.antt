@@ -2,7 +2,7 @@
 use Rattle.std.specs.Prelude.{map}
 use Rattle.std.specs.Int.{from_le_bytes, to_le_bytes, w64}
 use Rattle.std.specs.List.{AllByRecursion, IsDistinct}
-use Rattle.std.proofs.Common.{◌≡◌, ℕ, suc, ◌+◌, ◌*◌, ◌<◌, ◌≤◌, ◌^◌, Bool, true, false, ◌==◌, List, [], ◌∷◌, ◌++◌, length, Option, Some, None, Ok, refl, sym, ap, subst, ◌∙◌, arith}
+use Rattle.std.proofs.Common.{◌≡◌, ℕ, zero, suc, ◌+◌, ◌*◌, ◌<◌, ◌≤◌, ◌^◌, Bool, true, false, ◌==◌, List, [], ◌∷◌, ◌++◌, length, Option, Some, None, Ok, refl, sym, ap, subst, ◌∙◌, arith}
 use Rattle.std.proofs.lemmas.Bool.{ne_eqb}
 use Rattle.std.proofs.lemmas.Nat.{from_le_bytes-to_le_bytes_8}
 use Rattle.com_base.specs.declared.standard.StdFields.{StdFields}
@@ -75,7 +75,7 @@ one_behind (Some p) n rest is high apart =
 behind : (c : C.Tables) (t u : Tables) (n k : ℕ) → n + k ≤ 2 ^ 64 → length t.packets < 2 ^ 64
     → Behind (packet_with c t) n (map (fields_of c u) (numbers_from n k))
 unfolding IsDistinct
-behind c t u n 0 short few = (tt, tt)
+behind c t u n zero short few = (tt, tt)
 behind c t u n (suc k) short few =
     let rest : Behind (packet_with c t) (n + 1) (map (fields_of c u) (numbers_from (n + 1) k)) = behind c t u (n + 1) k (omega (arith, short)) few in
     one_behind (packet_with c t (fields_of c u n)) n (packets_named (packet_with c t) (map (fields_of c u) (numbers_from (n + 1) k)))

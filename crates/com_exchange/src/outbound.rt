@@ -258,6 +258,7 @@ pub fn send(
     ensures err { OnErr result (refs.new ≡ refs.old) }
     ensures out_err { OnErr result (out.new ≡ out.old) }
 {
+    refs.bounds();
     let carried = references_in(alloc, values)?;
     let fields = packets_ahead(alloc, classes, refs, apartment, carried.as_slice())?;
     let mut numbers = Vec::with_capacity(alloc, carried.len())?;

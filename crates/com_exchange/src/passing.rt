@@ -80,22 +80,30 @@ fn has_fields(kept: &Kept<'_>, fields: &StdFields, number: u32) -> bool
     same_fields(fields, &fields_as(kept.classes, owner, row, number))
 }
 
+// The outstanding packet that has these five fields.
+fn find(kept: &Kept<'_>, fields: &StdFields) -> Option<u32>
+    ensures { result ≡ packet_with kept.now.classes.now kept.now.refs.now fields.now }
+{
+    let made = kept.refs.packets();
+    let number = number_in(fields);
+    if number == 0 {
+        return None;
+    }
+    if number > u64::from(made) {
+        return None;
+    }
+    let number = number as u32;
+    if has_fields(kept, fields, number) {
+        Some(number)
+    } else {
+        None
+    }
+}
+
 impl<'a> Packets for Kept<'a> {
     ghost named = { λ kept. packet_with kept.classes.now kept.refs.now };
 
     fn find(&self, fields: &StdFields) -> Option<u32> {
-        let number = number_in(fields);
-        if number == 0 {
-            return None;
-        }
-        if number > u64::from(self.refs.packets()) {
-            return None;
-        }
-        let number = number as u32;
-        if has_fields(self, fields, number) {
-            Some(number)
-        } else {
-            None
-        }
+        find(self, fields)
     }
 }
