@@ -5,6 +5,7 @@ use Rattle.std.specs.List.{AllByRecursion, IsDistinct}
 use Rattle.std.proofs.Common.{◌≡◌, ℕ, zero, suc, ◌+◌, ◌<◌, ◌≤◌, ◌^◌, Bool, true, false, ◌&&◌, ◌==◌, if◌then◌else◌, List, [], ◌∷◌, ◌++◌, length, get_or, take, drop, slice_index_or, Option, Some, None, Result, Ok, Err, refl, sym, ap, subst, ◌∙◌, append_assoc, append-nil, arith}
 use Rattle.std.proofs.lemmas.Grind.{common_steps}
 use Rattle.std.proofs.lemmas.List.{length-append, length-map, map-append}
+use Rattle.std.proofs.Math.Dec.{eqb-suc-suc}
 use Rattle.std.proofs.Math.ListN.{drop_of_length-le}
 use Rattle.com_base.specs.declared.standard.StdFields.{StdFields}
 use Rattle.com_base.specs.declared.value.Kind.{Kind}
@@ -197,9 +198,9 @@ set_other [] p q e = refl
 set_other (x ∷ ps) zero zero e = cc
 set_other (x ∷ ps) zero (suc q) e = refl
 set_other (x ∷ ps) (suc p) zero e = refl
-set_other (x ∷ ps) (suc p) (suc q) e = set_other ps p q e
+set_other (x ∷ ps) (suc p) (suc q) e = set_other ps p q (sym (eqb-suc-suc p q) ∙ e)
 
-packet-of : List Packet → ℕ → Packet
+abbrev packet-of : List Packet → ℕ → Packet
 packet-of ps zero = no_packet
 packet-of ps (suc q) = slice_index_or ps q no_packet
 
@@ -210,7 +211,7 @@ packet_in_list b (suc q) = refl
 ended_other : (ps : List Packet) (p q : ℕ) → (p == q) ≡ false → packet-of (set_from_one ps p no_packet) q ≡ packet-of ps q
 ended_other ps zero q e = refl
 ended_other ps (suc p) zero e = refl
-ended_other ps (suc p) (suc q) e = set_other ps p q e
+ended_other ps (suc p) (suc q) e = set_other ps p q (sym (eqb-suc-suc p q) ∙ e)
 
 ends : (owned : Bool) (b : Books) (m : MarshalMode) (a p o i q : ℕ) → (p == q) ≡ false
     → packet-of (changed b (unmarshal_change m owned a p o i)).packets q ≡ packet-of b.packets q

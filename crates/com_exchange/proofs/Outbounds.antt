@@ -152,16 +152,16 @@ can_later t v (x ∷ rs) (suc i) r within is all live sets = can_later t v rs i 
 
 -- ---- values
 
+both : (v : Value) (vs : List Value) → CanTravel v → All CanTravel vs → All CanTravel (v ∷ vs)
+both v vs one rest zero d h = one
+both v vs one rest (suc i) d h = rest i d (omega (arith, h))
+
 -- What travels as kinds can travel.
 pub each_travels : (ks : List Kind) (vs : List Value) → TravelAs ks vs → All CanTravel vs
 each_travels [] [] p = λ k d h. absurd (omega (arith, h))
 each_travels [] (v ∷ vs) p = absurd p
 each_travels (k ∷ ks) [] p = absurd p
-each_travels (k ∷ ks) (v ∷ vs) p = λ i d h. at i d h
-  where
-    at : (i : ℕ) (d : Value) → i < length (v ∷ vs) → CanTravel (get_or (v ∷ vs) i d)
-    at zero d h = p.1
-    at (suc i) d h = each_travels ks vs p.2 i d (omega (arith, h))
+each_travels (k ∷ ks) (v ∷ vs) p = λ i d h. both v vs p.1 (each_travels ks vs p.2) i d h
 
 pub carried_few : (vs : List Value) → length (carried vs) ≤ length vs
 carried_few [] = omega arith

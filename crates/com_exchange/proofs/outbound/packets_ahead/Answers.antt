@@ -44,7 +44,7 @@ returns-clause-named c =
     ∙ ap (map reference_of) c.as_slice-3.ensures.value
     ∙ c.in_ok-rows.ensures.references
 
-pub fields_ahead-requires : goal.fields_ahead-fields-requires
+pub fields_ahead-requires : goal.fields_ahead-requires
 fields_ahead-requires c =
     let rows : length c.as_slice-3.result.now ≡ length c.in_ok-rows.rows.items = ap length c.as_slice-3.ensures.value in
     let references : length (map reference_of c.in_ok-rows.rows.items) ≡ length c.args.carried.now = ap length c.in_ok-rows.ensures.references in
