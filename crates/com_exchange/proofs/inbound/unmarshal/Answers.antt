@@ -1,4 +1,4 @@
-use Rattle.std.proofs.Common.{ℕ, subst}
+use Rattle.std.proofs.Common.{ℕ, subst, ◌∙◌}
 use Rattle.com_refs_holders.specs.Places.{OneMore}
 use Rattle.com_refs_holders.specs.Tables.{owns_of}
 use Rattle.com_exchange.proofs.Inbounds.{object_of_row, stands_in}
@@ -6,7 +6,7 @@ use Rattle.com_exchange.proofs.inbound.unmarshal.Goals as goal
 
 pub unreachable-requires : goal.unreachable-requires
 unreachable-requires c =
-    stands_in c.args.refs.now c.args.number c.requires.outstanding (c.unmarshal.ensures.unknown.0 (c.in-Err.ensures.only c.requires.room))
+    stands_in c.args.refs.now c.args.number c.requires.outstanding (c.unmarshal.ensures.unknown.0 (c.in-Err.is ∙ c.in-Err.ensures.only c.requires.room))
 
 pub returns-clause-places : goal.returns-clause-places
 returns-clause-places c =
