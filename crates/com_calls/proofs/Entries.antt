@@ -1,5 +1,5 @@
 -- Each entry is its steps.
-use Rattle.std.proofs.Common.{◌≡◌, refl, sym, ◌∙◌, ap, arith, ℕ, zero, suc, ◌+◌, ℤ, pos, negsuc, Bool, true, false, nat_lt, if◌then◌else◌, List, [], ◌∷◌, Option, slice_set}
+use Rattle.std.proofs.Common.{◌≡◌, refl, ◌∙◌, ap, arith, ℕ, zero, suc, ◌+◌, ℤ, pos, negsuc, Bool, true, false, nat_lt, if◌then◌else◌, List, Option}
 use Rattle.com_base.specs.declared.hresult.HResult.{HResult}
 use Rattle.com_base.specs.declared.value.Value.{Value}
 use Rattle.com_refs_books.specs.Counting.{count_if}
@@ -18,7 +18,7 @@ use Rattle.com_model.specs.Apartments.{ends_sta}
 use Rattle.com_model.specs.State.{phases_by}
 use Rattle.com_model.specs.Waiting.{Posts, Delays, posted_last}
 use Rattle.com_state.specs.Parts.{CallTables, ObjectTables, Moment, Issuing, calls_after}
-use Rattle.com_calls.specs.Steps.{values_gone, entered_at, ended_at, left_at, returned_at, phased_at, posted_at, grown_at, out_entry}
+use Rattle.com_calls.specs.Steps.{entered_at, ended_at, left_at, returned_at, phased_at, posted_at, grown_at, out_entry}
 use Rattle.com_calls.specs.After.{judged_at, retried_at, asked_at, routed_at, cut_at}
 
 -- An entry that issues no call draws no causality.

@@ -1,5 +1,5 @@
 -- The packets of the calls' requests.
-use Rattle.std.specs.Prelude.{is_none, is_some, if◌then◌else◌, map, slice_get, slice_index_or}
+use Rattle.std.specs.Prelude.{is_none, if◌then◌else◌, slice_get, slice_index_or}
 use Rattle.std.proofs.Common.{◌≡◌, ℕ, zero, suc, Bool, true, false, ◌&&◌, List, [], ◌∷◌, ◌++◌, length, Option, Some, None, refl, sym, ap, subst, ◌∙◌}
 use Rattle.com_base.specs.declared.hresult.HResult.{HResult}
 use Rattle.com_base.specs.declared.standard.StdFields.{StdFields}

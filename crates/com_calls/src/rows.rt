@@ -293,7 +293,11 @@ impl CallRow {
 
     /// Receives what it sends, until that is let go; then there are no values. Where the packets of several parameters
     /// are not outstanding, the first of them is answered. The only other error is want of memory.
-    pub fn receive<P: Packets>(&self, alloc: Global, packets: &P) -> Result<Rows<Value>, ExchangeError>
+    pub fn receive<P: Packets>(
+        &self,
+        alloc: Global,
+        packets: &P,
+    ) -> Result<Rows<Value>, ExchangeError>
         ensures values { IfOk result (λ values. values ≡ self.now.sends.values) }
         ensures all { IfOk result (λ values. any_lost (P.named packets.now) self.now.sends.fields ≡ false) }
         ensures one { (n : ℕ) → result ≡ Err (NotConnected n)

@@ -1,7 +1,7 @@
 //! A runtime that makes one entry at a time.
 
 ghost use Rattle.std.specs.Prelude.{◌≡◌, ◌<◌, ◌≤◌, ◌∷◌, ◌↔◌, [], IfErr, IfOk, IsTrue, OnErr, OnOk};
-ghost use Rattle.std.specs.Prelude.{IfSome, IsSome, Some, false, map, true};
+ghost use Rattle.std.specs.Prelude.{IfSome, IsSome, None, Some, false, map, true};
 ghost use Rattle.std.specs.Arc.{arc_value};
 ghost use Rattle.com_core.specs.Beginning.{BeginsParts};
 ghost use Rattle.com_core.specs.Seen.{IsFirst, Steps, core_state};
@@ -23,11 +23,12 @@ ghost use Rattle.com_servant.specs.Steps.{IsOfItsClass, job_step};
 
 use crate::running::Running;
 use com_base::Memory;
-use com_body::{Job, Outcome};
+use com_body::{Cells, Frame, Job, Native, Outcome};
 use com_model::{Counts, Deed, Entry, Scenario};
 use com_runtime::{CommitError, Jobs, Next, Runtime, Standing};
 use com_schedule::Tries;
 use com_servant::Servant;
+use com_turns::Bench;
 use com_view::{Next as ViewNext, standing_of};
 use std::alloc::Global;
 use std::marker::Model;
@@ -43,9 +44,9 @@ pub struct Core {
     scenario: Arc<Scenario>,
     count: u32,
     running: Running,
-    // The step of the entry that was made last, if it was somebody's. It lies here from step to step, since
-    // it is wide, and nobody reads it between two entries.
-    step: Option<Outcome>,
+    // The step of the entry that was made last, and the job of which it was made. They lie here from step to
+    // step, since they are wide, and nobody reads them between two entries.
+    bench: Bench,
     // The entry that was made last, in one place from its making to its line. It means nothing before the
     // first one, after one that was taken, and where none was made.
     made: Entry,
@@ -69,6 +70,21 @@ impl Model for Core {
         × Few c.running.parts
         × (c.count ≡ lanes (arc_value c.scenario)) × (length (arc_value c.scenario).threads < 2 ^ 32)
         × IsKept (core_of (arc_value c.scenario) c.running) };
+}
+
+// The bench before the first step. The only error is want of memory.
+fn no_bench(alloc: Global) -> Result<Bench, Memory>
+    ensures { IfOk result (λ bench. bench.step ≡ None) }
+{
+    let job = Job {
+        kind: Native::Bodies,
+        class: 0,
+        iface: 0,
+        method: 0,
+        frame: Frame::enter(alloc, &[])?,
+        cells: Cells::new(),
+    };
+    Ok(Bench { job, step: None })
 }
 
 // What stands in the place of an entry before there is one.
@@ -99,7 +115,7 @@ impl Core {
             scenario,
             count,
             running,
-            step: None,
+            bench: no_bench(alloc)?,
             made: no_entry(),
         })
     }
@@ -218,7 +234,7 @@ impl Core {
             alloc,
             lane,
             servants,
-            &mut self.step,
+            &mut self.bench,
             &mut self.made,
         )
     }
@@ -405,7 +421,13 @@ impl Core {
         ensures err { OnErr result (self.new.core ≡ self.old.core) }
         ensures scenario { self.new.core.scenario ≡ self.old.core.scenario }
     {
-        self.running.advance(&self.scenario, alloc, lane, &mut self.step, &mut self.made)
+        self.running.advance(
+            &self.scenario,
+            alloc,
+            lane,
+            &mut self.bench.step,
+            &mut self.made,
+        )
     }
 
     /// Makes the next entry of a lane that needs no servant, or of lane 0 the clock's entry, where the clock

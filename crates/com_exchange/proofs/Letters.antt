@@ -1,12 +1,13 @@
 -- What a message says is what is read in its bytes, and which of its packets are not outstanding.
-use Rattle.std.specs.Prelude.{is_none, is_some, cond}
-use Rattle.std.proofs.Common.{◌≡◌, ℕ, suc, ◌+◌, ◌<◌, ◌≤◌, Bool, true, false, ◌||◌, List, [], ◌∷◌, ◌++◌, length, get_or, drop, Option, Some, None, Result, Ok, Err, refl, sym, ap, subst, ◌∙◌, arith}
+use Rattle.std.specs.Prelude.{is_none}
+use Rattle.std.proofs.Common.{◌≡◌, ℕ, suc, ◌+◌, ◌<◌, ◌≤◌, Bool, true, false, ◌||◌, List, [], ◌∷◌, length, get_or, drop, Option, Some, None, Result, Ok, Err, refl, sym, ap, subst, ◌∙◌, arith}
 use Rattle.std.proofs.Math.Seq.{drop-cons}
 use Rattle.std.proofs.Math.ListN.{drop_of_length-le}
 use Rattle.com_base.specs.declared.guid.Guid.{Guid}
 use Rattle.com_base.specs.declared.standard.StdFields.{StdFields}
 use Rattle.com_base.specs.declared.value.Kind.{Kind}
 use Rattle.com_base.specs.declared.value.Value.{Value}
+use Rattle.com_base.specs.declared.value.Value.TheVariants as value
 use Rattle.orpc.specs.declared.OrpcFault.{OrpcFault}
 use Rattle.orpc.specs.Headers.{request_of}
 use Rattle.ndr_args.specs.declared.wire.Wire.{Wire}
@@ -34,7 +35,7 @@ as-many : (kinds : List Kind) (position : ℕ) (ws : List Wire) (bytes : List �
 as-many [] position [] bytes p = refl
 as-many [] position (w ∷ ws) bytes p = absurd p
 as-many (k ∷ ks) position [] bytes p = absurd p
-as-many (k ∷ ks) position (w ∷ ws) bytes (text, rest, one, front, more) = ap suc (as-many ks _ ws rest more)
+as-many (k ∷ ks) position (w ∷ ws) bytes p = ap suc (as-many ks _ ws p.1 p.4)
 
 pub as_many_read : (kinds : List Kind) (ws : List Wire) (bytes : List ℕ) → IsArgs kinds 0 ws bytes → length ws ≡ length kinds
 as_many_read kinds ws bytes p = as-many kinds 0 ws bytes p
@@ -44,13 +45,15 @@ values-are : (kinds : List Kind) (rest : List ℕ) (cause : Result Guid OrpcFaul
 values-are kinds rest (Err g) ws is e = absurd is
 values-are kinds rest (Ok cause) ws is e = ap (λ (r : Result (List Wire) ArgFault). values_read (with_wires cause r)) (sym e)
 
-pub values_are : (kinds : List Kind) (bytes : List ℕ) (ws : List Wire) → IsRead (request_in kinds bytes)
-    → args_of kinds (drop 32 bytes) ≡ Ok ws → values_in ws ≡ values_read (request_in kinds bytes)
-values_are kinds bytes ws is e = values-are kinds (drop 32 bytes) (request_of bytes) ws is e
+pub values_are : (kinds : List Kind) (bytes rest : List ℕ) (ws : List Wire) → IsRead (request_in kinds bytes) → rest ≡ drop 32 bytes
+    → args_of kinds rest ≡ Ok ws → values_in ws ≡ values_read (request_in kinds bytes)
+values_are kinds bytes rest ws is behind e =
+    values-are kinds (drop 32 bytes) (request_of bytes) ws is (ap (args_of kinds) (sym behind) ∙ e)
 
-pub fields_are : (kinds : List Kind) (bytes : List ℕ) (ws : List Wire) → args_of kinds (drop 32 bytes) ≡ Ok ws
+pub fields_are : (kinds : List Kind) (bytes rest : List ℕ) (ws : List Wire) → rest ≡ drop 32 bytes → args_of kinds rest ≡ Ok ws
     → fields_in ws ≡ fields_of_request kinds bytes
-fields_are kinds bytes ws e = ap (λ (r : Result (List Wire) ArgFault). fields_read r) (sym e)
+fields_are kinds bytes rest ws behind e =
+    ap (λ (r : Result (List Wire) ArgFault). fields_read r) (sym (ap (args_of kinds) (sym behind) ∙ e))
 
 -- ---- which packets are not outstanding
 
@@ -118,24 +121,43 @@ lost_more named i ws w within is found so_far =
 
 -- A lost packet that is found is the first.
 pub lost_here : (named : StdFields → Option ℕ) (i : ℕ) (ws : List Wire) (w : Wire) → i < length ws → w ≡ get_or ws i w
-    → any_lost named (fields_in_one w) ≡ true → LostSoFar named i ws
-    → (Some i ≡ lost_parameter named (values_in ws) (fields_in ws)) × (true ≡ any_lost named (fields_in ws))
+    → any_lost named (fields_in_one w) ≡ true → LostSoFar named i ws → Some i ≡ lost_parameter named (values_in ws) (fields_in ws)
 lost_here named i ws w within is lost so_far =
-    let here : drop i ws ≡ w ∷ drop (suc i) ws = split ws i w within is in (
-      sym (so_far.number
-          ∙ ap (λ (l : List Wire). lost_from named i (values_in l) (fields_in l)) here
-          ∙ from-lost named i w (drop (suc i) ws) lost),
-      sym (so_far.any
-          ∙ ap (λ (l : List Wire). any_lost named (fields_in l)) here
-          ∙ any-lost named w (drop (suc i) ws)
-          ∙ ap (λ (b : Bool). b || any_lost named (fields_in (drop (suc i) ws))) lost),
-    )
+    sym (so_far.number
+    ∙ ap (λ (l : List Wire). lost_from named i (values_in l) (fields_in l)) (split ws i w within is)
+    ∙ from-lost named i w (drop (suc i) ws) lost)
+
+pub any_here : (named : StdFields → Option ℕ) (i : ℕ) (ws : List Wire) (w : Wire) → i < length ws → w ≡ get_or ws i w
+    → any_lost named (fields_in_one w) ≡ true → LostSoFar named i ws → true ≡ any_lost named (fields_in ws)
+any_here named i ws w within is lost so_far =
+    sym (so_far.any
+    ∙ ap (λ (l : List Wire). any_lost named (fields_in l)) (split ws i w within is)
+    ∙ any-lost named w (drop (suc i) ws)
+    ∙ ap (λ (b : Bool). b || any_lost named (fields_in (drop (suc i) ws))) lost)
 
 -- Behind the last value there is none.
 pub lost_nowhere : (named : StdFields → Option ℕ) (i : ℕ) (ws : List Wire) → length ws ≤ i → LostSoFar named i ws
-    → (None ≡ lost_parameter named (values_in ws) (fields_in ws)) × (false ≡ any_lost named (fields_in ws))
+    → None ≡ lost_parameter named (values_in ws) (fields_in ws)
 lost_nowhere named i ws past so_far =
-    let none : drop i ws ≡ [] = drop_of_length-le ws past in (
-      sym (so_far.number ∙ ap (λ (l : List Wire). lost_from named i (values_in l) (fields_in l)) none),
-      sym (so_far.any ∙ ap (λ (l : List Wire). any_lost named (fields_in l)) none),
-    )
+    let none : drop i ws ≡ [] = drop_of_length-le ws past in
+    sym (so_far.number ∙ ap (λ (l : List Wire). lost_from named i (values_in l) (fields_in l)) none)
+
+pub any_nowhere : (named : StdFields → Option ℕ) (i : ℕ) (ws : List Wire) → length ws ≤ i → LostSoFar named i ws
+    → false ≡ any_lost named (fields_in ws)
+any_nowhere named i ws past so_far =
+    let none : drop i ws ≡ [] = drop_of_length-le ws past in
+    sym (so_far.any ∙ ap (λ (l : List Wire). any_lost named (fields_in l)) none)
+
+-- Where there are no packets none is lost.
+none-from : (named : StdFields → Option ℕ) (k : ℕ) (vs : List Value) → lost_from named k vs [] ≡ None
+none-from named k [] = refl
+none-from named k (value.Int n ∷ vs) = none-from named (k + 1) vs
+none-from named k (value.Bool b ∷ vs) = none-from named (k + 1) vs
+none-from named k (value.Text t ∷ vs) = none-from named (k + 1) vs
+none-from named k (value.Bytes t ∷ vs) = none-from named (k + 1) vs
+none-from named k (value.Guid g ∷ vs) = none-from named (k + 1) vs
+none-from named k (value.Ref None ∷ vs) = none-from named (k + 1) vs
+none-from named k (value.Ref (Some r) ∷ vs) = refl
+
+pub none_lost : (named : StdFields → Option ℕ) (vs : List Value) → lost_parameter named vs [] ≡ None
+none_lost named vs = none-from named 0 vs

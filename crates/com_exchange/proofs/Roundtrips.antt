@@ -68,9 +68,10 @@ one_behind : (o : Option ℕ) (n : ℕ) (rest : List ℕ) → ((p : ℕ) → o �
 unfolding IsDistinct
 one_behind None n rest is high apart = (all_of (λ q. n + 1 ≤ q) (λ q. n ≤ q) rest (λ q h. omega (arith, h)) high, apart)
 one_behind (Some p) n rest is high apart =
-    let same : p ≡ n = is p refl in
-    ((omega (arith, same), all_of (λ q. n + 1 ≤ q) (λ q. n ≤ q) rest (λ q h. omega (arith, h)) high),
-    (all_of (λ q. n + 1 ≤ q) (λ q. (p == q) ≡ false) rest (λ q h. ne_eqb p q (λ e. omega (arith, e, same, h))) high, apart))
+    let same : p ≡ n = is p refl in (
+      (omega (arith, same), all_of (λ q. n + 1 ≤ q) (λ q. n ≤ q) rest (λ q h. omega (arith, h)) high),
+      (all_of (λ q. n + 1 ≤ q) (λ q. (p == q) ≡ false) rest (λ q h. ne_eqb p q (λ e. omega (arith, e, same, h))) high, apart),
+    )
 
 behind : (c : C.Tables) (t u : Tables) (n k : ℕ) → n + k ≤ 2 ^ 64 → length t.packets < 2 ^ 64
     → Behind (packet_with c t) n (map (fields_of c u) (numbers_from n k))

@@ -1,8 +1,8 @@
 //! What a call sends: its values, or the bytes of a request that say them.
-ghost use Rattle.std.specs.Prelude.{◌≡◌, ◌≤◌, ℕ, [], Err, IfOk, None, Ok, Some, false, length, map, true};
+ghost use Rattle.std.specs.Prelude.{◌≡◌, ◌≤◌, ℕ, [], Err, IfErr, IfOk, None, Ok, Some, false, length, map, true};
 ghost use Rattle.com_base.specs.declared.limits.TheConstants.{PARAMETER_LIMIT};
 ghost use Rattle.com_model.specs.Values.{carried, cause_guid, request_bytes};
-ghost use Rattle.com_exchange.specs.declared.packets.ExchangeError.TheVariants.{NotConnected};
+ghost use Rattle.com_exchange.specs.declared.packets.ExchangeError.TheVariants as errors;
 ghost use Rattle.com_exchange.specs.Received.{fields_of_request, packet_in_fields, reference_in_fields};
 ghost use Rattle.com_exchange.specs.Received.{request_in};
 ghost use Rattle.com_exchange.specs.Messages.{IsRead, TravelAs, any_lost, lost_parameter, values_read};
@@ -64,7 +64,7 @@ fn copy_of(alloc: Global, values: &[Value]) -> Result<Rows<Value>, Memory>
 // The values themselves, copied, as they are received without bytes.
 fn received_copies(alloc: Global, values: &[Value]) -> Result<Rows<Value>, ExchangeError>
     ensures values { IfOk result (λ copies. copies ≡ values.now) }
-    ensures error { (n : ℕ) → (result ≡ Err (NotConnected n)) → ⊥ }
+    ensures error { IfErr result (λ error. error ≡ errors.Memory) }
 {
     match copy_of(alloc, values) {
         Ok(copies) => Ok(copies),
@@ -73,7 +73,6 @@ fn received_copies(alloc: Global, values: &[Value]) -> Result<Rows<Value>, Excha
 }
 
 // The values that the bytes of a request say, where each packet is outstanding that stands there.
-#[tactic(auto, using(crate::proofs::Letters::values_are, crate::proofs::Letters::fields_are))]
 fn received_in_bytes<P: Packets>(
     alloc: Global,
     kinds: &[Kind],
@@ -85,11 +84,11 @@ fn received_in_bytes<P: Packets>(
     ensures values { IfOk result (λ values. values ≡ values_read (request_in kinds.now bytes.now)) }
     ensures found { IfOk result (λ values. lost_parameter (P.named packets.now)
         (values_read (request_in kinds.now bytes.now)) (fields_of_request kinds.now bytes.now) ≡ None) }
-    ensures lost { (n : ℕ) → result ≡ Err (NotConnected n) → lost_parameter (P.named packets.now)
+    ensures lost { (n : ℕ) → result ≡ Err (errors.NotConnected n) → lost_parameter (P.named packets.now)
         (values_read (request_in kinds.now bytes.now)) (fields_of_request kinds.now bytes.now) ≡ Some n }
     ensures all { IfOk result (λ values. any_lost (P.named packets.now)
         (fields_of_request kinds.now bytes.now) ≡ false) }
-    ensures one { (n : ℕ) → result ≡ Err (NotConnected n)
+    ensures one { (n : ℕ) → result ≡ Err (errors.NotConnected n)
         → any_lost (P.named packets.now) (fields_of_request kinds.now bytes.now) ≡ true }
 {
     let wires = match wires_in(alloc, kinds, bytes) {
@@ -171,20 +170,30 @@ impl Message {
     /// Receives the values. Of a request its bytes are read, and the packet of each reference is found by the five
     /// fields that stand there. Where the packets of several parameters are not outstanding, the first of them is
     /// answered. The only other error is want of memory. Source: MS-DCOM, STDOBJREF.
-    pub fn receive<P: Packets>(&self, alloc: Global, packets: &P) -> Result<Rows<Value>, ExchangeError>
+    #[tactic(auto, using(crate::proofs::Letters::none_lost))]
+    pub fn receive<P: Packets>(
+        &self,
+        alloc: Global,
+        packets: &P,
+    ) -> Result<Rows<Value>, ExchangeError>
         ensures values { IfOk result (λ values. values ≡ self.now.values) }
         ensures found { IfOk result (λ values. lost_parameter (P.named packets.now) self.now.values self.now.fields
             ≡ None) }
-        ensures lost { (n : ℕ) → result ≡ Err (NotConnected n)
+        ensures lost { (n : ℕ) → result ≡ Err (errors.NotConnected n)
             → lost_parameter (P.named packets.now) self.now.values self.now.fields ≡ Some n }
         ensures all { IfOk result (λ values. any_lost (P.named packets.now) self.now.fields ≡ false) }
-        ensures one { (n : ℕ) → result ≡ Err (NotConnected n)
+        ensures one { (n : ℕ) → result ≡ Err (errors.NotConnected n)
             → any_lost (P.named packets.now) self.now.fields ≡ true }
     {
         match &self.form {
             Form::Values(values) => received_copies(alloc, values.as_slice()),
             Form::Request(written) => {
-                received_in_bytes(alloc, written.kinds.as_slice(), written.bytes.as_slice(), packets)
+                received_in_bytes(
+                    alloc,
+                    written.kinds.as_slice(),
+                    written.bytes.as_slice(),
+                    packets,
+                )
             }
         }
     }

@@ -1,10 +1,9 @@
 //! Reading a request: its causality, its values, and the packets that carry the references.
-ghost use Rattle.std.specs.Prelude.{◌≡◌, ◌<◌, ◌^◌, ◌++◌, IfOk, Ok, OnOk, drop, is_some, length};
-ghost use Rattle.ndr_args.specs.Reading.{args_of};
-ghost use Rattle.com_exchange.specs.Messages.{IsRead, any_lost, lost_parameter};
+ghost use Rattle.std.specs.Prelude.{◌≡◌, ◌<◌, ◌^◌, ◌++◌, IfOk, OnOk, drop, is_some, length};
+ghost use Rattle.com_exchange.specs.Messages.{IsRead, any_lost, lost_parameter, values_read};
 ghost use Rattle.com_exchange.specs.Received.{reference_in_fields, packet_in_fields, values_in, packets_in};
 ghost use Rattle.com_exchange.specs.Received.{value_in, packet_in, request_in, Reads};
-ghost use Rattle.com_exchange.specs.Received.{fields_in, fields_in_one};
+ghost use Rattle.com_exchange.specs.Received.{fields_in, fields_in_one, fields_of_request};
 
 use crate::packets::Packets;
 use com_base::{Guid, Kind, Memory, RefValue, Rows, StdFields, Value};
@@ -117,10 +116,12 @@ fn behind_header(bytes: &[u8]) -> &[u8]
 }
 
 // The arguments as they travelled, of bytes that are a request. The only error is want of memory.
-#[tactic(auto, using(crate::proofs::Letters::no_fault, crate::proofs::Letters::as_many_read))]
+#[tactic(auto, using(crate::proofs::Letters::no_fault, crate::proofs::Letters::as_many_read, crate::proofs::Letters::values_are, crate::proofs::Letters::fields_are))]
 pub(crate) fn wires_in(alloc: Global, kinds: &[Kind], bytes: &[u8]) -> Result<Vec<Wire>, Memory>
     requires { IsRead (request_in kinds.now bytes.now) }
-    ensures read { IfOk result (λ wires. args_of kinds.now (drop 32 bytes.now) ≡ Ok wires.items) }
+    ensures values { IfOk result (λ wires. values_in wires.items
+        ≡ values_read (request_in kinds.now bytes.now)) }
+    ensures fields { IfOk result (λ wires. fields_in wires.items ≡ fields_of_request kinds.now bytes.now) }
     ensures count { IfOk result (λ wires. length wires.items ≡ length kinds.now) }
 {
     match read_args(alloc, kinds, behind_header(bytes)) {
@@ -141,7 +142,7 @@ fn is_lost<P: Packets>(wire: &Wire, packets: &P) -> bool
 }
 
 // The number of the first value, from 0, that travelled as a packet that is not outstanding.
-#[tactic(auto, using(crate::proofs::Letters::lost_none, crate::proofs::Letters::lost_more, crate::proofs::Letters::lost_here, crate::proofs::Letters::lost_nowhere))]
+#[tactic(auto, using(crate::proofs::Letters::lost_none, crate::proofs::Letters::lost_more, crate::proofs::Letters::lost_here, crate::proofs::Letters::any_here, crate::proofs::Letters::lost_nowhere, crate::proofs::Letters::any_nowhere))]
 pub(crate) fn first_lost<P: Packets>(wires: &[Wire], packets: &P) -> Option<u32>
     requires { length wires.now < 2 ^ 32 }
     ensures number { result

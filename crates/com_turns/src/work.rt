@@ -1,6 +1,6 @@
 //! The job of a body.
 
-ghost use Rattle.std.specs.Prelude.{◌≡◌, ◌↔◌, IfOk, IsTrue, Some};
+ghost use Rattle.std.specs.Prelude.{◌≡◌, ◌↔◌, IfOk, IsTrue, OnOk, Some};
 ghost use Rattle.com_reference_moves.specs.Steps.{BodiesWhole};
 ghost use Rattle.com_scene.specs.Kept.{HasSlots};
 ghost use Rattle.com_servant.specs.Steps.{IsOfItsClass};
@@ -51,6 +51,57 @@ pub fn work_of(view: &View<'_>, alloc: Global, call: u32, object: u32) -> Result
         frame,
         cells: view.scene.cells(object),
     })
+}
+
+// Makes a frame a copy of that of a body. The only error is want of memory.
+fn fill_frame(
+    view: &View<'_>,
+    alloc: Global,
+    call: u32,
+    object: u32,
+    frame: &mut Frame,
+) -> Result<(), Memory>
+    requires bodies { BodiesWhole view.now.scene }
+    ensures whole { OnOk result (HasSlots frame.new) }
+    ensures frame { OnOk result (frame.new ≡ body_at view.now.scene call) }
+{
+    match view.scene.frame(Actor::Body { call, object }) {
+        Some(own) => frame.copy_from(own),
+        None => {
+            *frame = Frame::enter(alloc, &[])?;
+            Ok(())
+        }
+    }
+}
+
+/// Makes a job that of the body of a call on an object, in the memory that it has. The only error is want of memory:
+/// then it is some job.
+pub fn fill_work(
+    view: &View<'_>,
+    alloc: Global,
+    call: u32,
+    object: u32,
+    job: &mut Job,
+) -> Result<(), Memory>
+    requires bodies { BodiesWhole view.now.scene }
+    requires work { HasWork view.now call object }
+    ensures job { OnOk result (work_seen view.now call object ≡ Some job.new) }
+    ensures class { OnOk result (IsOfItsClass view.now.scenario.classes job.new) }
+    ensures whole { OnOk result (HasSlots job.new.frame) }
+{
+    let class = view.objects.class(object);
+    let Some(declared) = view.scenario.classes.class(class) else {
+        unreachable!()
+    };
+    let Some(issue) = view.calls.issue(call) else {
+        unreachable!()
+    };
+    job.kind = declared.native;
+    job.class = class;
+    job.iface = issue.iface;
+    job.method = issue.method;
+    job.cells = view.scene.cells(object);
+    fill_frame(view, alloc, call, object, &mut job.frame)
 }
 
 // Whether a frame is that of a body.

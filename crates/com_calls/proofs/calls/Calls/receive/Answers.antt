@@ -1,4 +1,4 @@
-use Rattle.std.proofs.Common.{◌≡◌, ◌∙◌, sym, ap, subst, ℕ, Bool, true, false, ◌&&◌, List, [], Option, Some, None}
+use Rattle.std.proofs.Common.{◌≡◌, ◌∙◌, sym, ap, true, ◌&&◌, List, [], Option, Some, None}
 use Rattle.std.specs.Prelude.{is_none}
 use Rattle.std.proofs.lemmas.Result.{IfOk-weaker}
 use Rattle.com_base.specs.declared.standard.StdFields.{StdFields}
@@ -8,7 +8,7 @@ use Rattle.com_model.specs.declared.keeps.Admission.{Admission}
 use Rattle.com_model.specs.declared.keeps.Ending.{Ending}
 use Rattle.com_model.specs.Lists.{from_one}
 use Rattle.com_calls.specs.Rows.{RowView, row_at}
-use Rattle.com_calls.specs.Kept.{Kept, fields_at, is_open}
+use Rattle.com_calls.specs.Kept.{Kept, fields_at}
 use Rattle.com_calls.proofs.RowReads.{read_or, read}
 use Rattle.com_calls.proofs.Requested.{lost_fields, open_fields, requested_at, requested_none}
 use Rattle.com_calls.proofs.calls.Calls.receive.Goals as goal
@@ -20,7 +20,7 @@ returns-in-None-clause-values g c =
     ∙ sym (read (λ (r : RowView). r.sends.values) s.rows.items c.args.call []) ∙ ap (λ (b : Kept). from_one b.tables.unread c.args.call []) c.self.view_is)
 
 pub returns-in-None-clause-all : goal.returns-in-None-clause-all
-returns-in-None-clause-all g c = λ open.
+returns-in-None-clause-all g c = λ unanswered.
     let s = c.self.inside in
     let named = g.P.Packets.named c.args.packets.now in
     let none = sym (c.in-None.ensures ∙ ap (λ (xs : List RowView). row_at xs c.args.call) c.deref.ensures.value) in
@@ -50,10 +50,10 @@ returns-in-Some-clause-all g c =
     ∙ ap (λ (b : Kept). from_one b.tables.endings call None) c.self.view_is in
     let held = requested_at s.rows.items s.packed.fields call r c.self.invariant.7 (sym row) in
     IfOk-weaker c.receive.result _ _
-    (λ values found open.
+    (λ values found unanswered.
     let free : (is_none r.admission && is_none r.ending) ≡ true =
     ap (λ (a : Option Admission). is_none a && is_none r.ending) admission
-    ∙ ap (λ (e : Option Ending). is_none (from_one c.args.self.now.tables.admissions call None) && is_none e) ending ∙ open in
+    ∙ ap (λ (e : Option Ending). is_none (from_one c.args.self.now.tables.admissions call None) && is_none e) ending ∙ unanswered in
     let are : r.sends.fields ≡ fields_at c.args.self.now call =
     open_fields r (from_one s.packed.fields call []) held free ∙ ap (λ (b : Kept). fields_at b call) c.self.view_is in
     ap (λ (fs : List StdFields). any_lost named fs) (sym are) ∙ found)

@@ -20,7 +20,7 @@ make-requires-clause-fits c =
     let s = c.args.scenario.now in
     let v = c.args.self.now in
     let b = books_held v.ledger in
-    let t = c.args.made in
+    let t = c.args.turn.now in
     subst (λ (rs : List RefValue). FitsBooks s.classes rs (number_or_zero (running_seen (seen_by s v.parts v.fallen.objects v.clock) c.args.lane)) (tally v.ledger.tables v.ledger.calls) t.doing.deed) (sym c.as_slice.ensures)
     (turn_books s (state_read s v.parts b v.fallen.objects v.clock) v.parts v.fallen.objects v.clock c.args.lane c.args.outcome.now t v.ledger
     c.requires.core.reached c.requires.core.stands c.requires.named c.requires.above c.requires.below c.requires.turn c.requires.ties c.requires.room)
@@ -30,7 +30,7 @@ make-requires-clause-brings c =
     let s = c.args.scenario.now in
     let v = c.args.self.now in
     let b = books_held v.ledger in
-    turn_brings s (state_read s v.parts b v.fallen.objects v.clock) v.parts v.fallen.objects v.clock c.args.lane c.args.outcome.now c.args.made v.ledger
+    turn_brings s (state_read s v.parts b v.fallen.objects v.clock) v.parts v.fallen.objects v.clock c.args.lane c.args.outcome.now c.args.turn.now v.ledger
     c.requires.core.reached c.requires.core.stands c.requires.named c.requires.above c.requires.below c.requires.turn c.requires.ties
 
 pub make-requires-clause-takes : goal.make-requires-clause-takes
@@ -38,7 +38,7 @@ make-requires-clause-takes c =
     let s = c.args.scenario.now in
     let v = c.args.self.now in
     let b = books_held v.ledger in
-    turn_taken s (state_read s v.parts b v.fallen.objects v.clock) v.parts b v.fallen.objects v.clock c.args.lane c.args.outcome.now c.args.made
+    turn_taken s (state_read s v.parts b v.fallen.objects v.clock) v.parts b v.fallen.objects v.clock c.args.lane c.args.outcome.now c.args.turn.now
     c.requires.core.reached c.requires.core.stands c.requires.named c.requires.above c.requires.below c.requires.room c.requires.turn
 
 pub returns-clause-next : goal.returns-clause-next
@@ -46,7 +46,7 @@ returns-clause-next c =
     let s = c.args.scenario.now in
     let v = c.args.self.now in
     let u = c.make.new.self in
-    let t = c.args.made in
+    let t = c.args.turn.now in
     let b = books_held v.ledger in
     let d : Entry = record { lane = c.args.lane; deed = t.doing.deed } in
     let changed : OnOk c.make.result (Changed s v.parts u.parts v.ledger u.ledger v.entered.counts u.entered.counts v.fallen.objects u.fallen.objects v.clock d (acting_of t.acting) c.args.outcome.now t.doing.carried (sent_by t.doing.enclosed)) =
