@@ -13,6 +13,8 @@ mod loads;
 #[cfg(test)]
 mod messages;
 #[cfg(test)]
+mod passing;
+#[cfg(test)]
 mod references;
 #[cfg(test)]
 mod words;
