@@ -13,8 +13,8 @@ use Rattle.com_model.specs.State.{changed, changed_from_one}
 use Rattle.com_state.specs.Parts.{CallTables}
 use Rattle.com_calls.specs.Leaves.{joined, with_late_call}
 use Rattle.com_calls.proofs.Leaves.{leavings_left}
-use Rattle.com_calls.specs.Rows.{RowView, row_at, late_row, call_tables, changed_row, admitting, ending_by, left_with, returning, phased, taken}
-use Rattle.com_calls.specs.Steps.{entered_at, ended_at, left_at, returned_at, phased_at, taken_at}
+use Rattle.com_calls.specs.Rows.{RowView, row_at, late_row, call_tables, changed_row, admitting, ending_by, left_with, returning, phased}
+use Rattle.com_calls.specs.Steps.{entered_at, ended_at, left_at, returned_at, phased_at}
 use Rattle.com_calls.proofs.Changed.{column}
 
 -- What a change of a row does to each column.
@@ -26,7 +26,7 @@ pub record Agrees (f : RowView → RowView) (xa : Option (Option Admission → O
   pub leaving : (r : RowView) → changed xl r.leaving ≡ (f r).leaving
   pub returned : (r : RowView) → changed xr r.returned ≡ (f r).returned
   pub ended : (r : RowView) → changed xe r.ending ≡ (f r).ending
-  pub unread : (r : RowView) → changed xu r.unread ≡ (f r).unread
+  pub unread : (r : RowView) → changed xu r.sends.values ≡ (f r).sends.values
   pub phase : (r : RowView) → changed xp r.phase ≡ (f r).phase
 
 tables-changed : (f : RowView → RowView) (xa : Option (Option Admission → Option Admission)) (xl : Option (Option Leaving → Option Leaving)) (xr : Option (Bool → Bool)) (xe : Option (Option Ending → Option Ending)) (xu : Option (List Value → List Value)) (xp : Option (Phase → Phase))
@@ -46,7 +46,7 @@ tables-changed f xa xl xr xe xu xp q c rows p k = λ i. record {
   returned = column (λ (r : RowView). r.returned) f xr c false rows q.returned i;
   endings = column (λ (r : RowView). r.ending) f xe c None rows q.ended i;
   refusals = column (λ (r : RowView). r.refusal) f None c (record { 0 = 0 }) rows q.refusal i;
-  unread = column (λ (r : RowView). r.unread) f xu c [] rows q.unread i;
+  unread = column (λ (r : RowView). r.sends.values) f xu c [] rows q.unread i;
   phases = column (λ (r : RowView). r.phase) f xp c Unposted rows q.phase i;
   times = column (λ (r : RowView). r.time) f None c 0 rows q.time i;
   postings = p;
@@ -90,7 +90,7 @@ tables_left c hr v rows ys p k = λ i. record {
   returned = column (λ (r : RowView). r.returned) (left_with c hr v) None c false rows (λ r. refl) i;
   endings = column (λ (r : RowView). r.ending) (left_with c hr v) (Some (λ y. or_else y (Some (ending.ByLeave hr v)))) c None rows (λ r. refl) i;
   refusals = column (λ (r : RowView). r.refusal) (left_with c hr v) None c (record { 0 = 0 }) rows (λ r. refl) i;
-  unread = column (λ (r : RowView). r.unread) (left_with c hr v) (Some (λ vs. [])) c [] rows (λ r. refl) i;
+  unread = column (λ (r : RowView). r.sends.values) (left_with c hr v) (Some (λ vs. [])) c [] rows (λ r. refl) i;
   phases = column (λ (r : RowView). r.phase) (left_with c hr v) None c Unposted rows (λ r. refl) i;
   times = column (λ (r : RowView). r.time) (left_with c hr v) None c 0 rows (λ r. refl) i;
   postings = p;
@@ -112,19 +112,6 @@ tables_returned c rows p k = tables-changed returning None None (Some (λ b. tru
 
 pub tables_phased : (x : Phase) (c : ℕ) (rows : List RowView) (p : List ℕ) (k : ℕ) → phased_at (call_tables rows p k) c x ≡ call_tables (changed_row (phased x) c rows) p k
 tables_phased x c rows p k = tables-changed (phased x) None None None None None (Some (λ y. x)) (record {
-  issue = λ r. refl;
-  refusal = λ r. refl;
-  time = λ r. refl;
-  admission = λ r. refl;
-  leaving = λ r. refl;
-  returned = λ r. refl;
-  ended = λ r. refl;
-  unread = λ r. refl;
-  phase = λ r. refl;
-}) c rows p k
-
-pub tables_taken : (c : ℕ) (rows : List RowView) (p : List ℕ) (k : ℕ) → taken_at (call_tables rows p k) c ≡ call_tables (changed_row taken c rows) p k
-tables_taken c rows p k = tables-changed taken None None None None (Some (λ vs. [])) None (record {
   issue = λ r. refl;
   refusal = λ r. refl;
   time = λ r. refl;

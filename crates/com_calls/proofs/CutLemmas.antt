@@ -15,7 +15,7 @@ use Rattle.com_calls.specs.declared.rows.Cut.TheVariants as cut
 use Rattle.com_model.specs.declared.keeps.Issue.{Issue}
 use Rattle.com_model.specs.declared.keeps.Admission.{Admission}
 use Rattle.com_inbox.specs.Queues.{Queues, without_number}
-use Rattle.com_calls.specs.Rows.{RowView, call_tables, changed_in, changed_row, ending_by, row_at, reaches}
+use Rattle.com_calls.specs.Rows.{no_letter, RowView, call_tables, changed_in, changed_row, ending_by, row_at, reaches}
 use Rattle.com_calls.specs.Inside.{kept_of, apartments_of}
 use Rattle.com_calls.specs.Kept.{Kept, with_tables, IsNamed}
 use Rattle.com_calls.specs.After.{cut_at, effect_of}
@@ -57,7 +57,7 @@ reaches-again (cut.Sta a) r = refl
 cut-twice : (x : Cut) (r : RowView) → cut_row x (cut_row x r) ≡ cut_row x r
 cut-twice x r = elim (reaches x r) as (λ b. reaches x r ≡ b → cut_row x (cond b (ending_by ByDisconnection r) r) ≡ cond b (ending_by ByDisconnection r) r) [
   | true ↦ λ e. ap (λ (b : Bool). cond b (ending_by ByDisconnection (ending_by ByDisconnection r)) (ending_by ByDisconnection r)) (reaches-again x r ∙ e)
-      ∙ ap (λ (y : Option Ending). let u : RowView = record r { ending = y; unread = [] } in u) (else-twice r.ending ByDisconnection)
+      ∙ ap (λ (y : Option Ending). let u : RowView = record r { ending = y; sends = no_letter } in u) (else-twice r.ending ByDisconnection)
   | false ↦ λ e. ap (λ (b : Bool). cond b (ending_by ByDisconnection r) r) e
 ] refl
 
@@ -82,7 +82,7 @@ cut-none : (x : Cut) (r : RowView) → is_reachable r ≡ false → IsLetGo r �
 cut-none x r shut gone = elim (reaches x r) as (λ b. reaches x r ≡ b → cond b (ending_by ByDisconnection r) r ≡ r) [
   | true ↦ λ e.
       let stays = answered-stays r.ending ByDisconnection (closed (can_be_cut (Some r.issue) r.admission) (is_none r.ending) (reaches-open x r e) shut) in
-      λ i. record r { ending = stays.0 i; unread = sym (gone stays.1) i }
+      λ i. record r { ending = stays.0 i; sends = sym (gone stays.1) i }
   | false ↦ λ e. refl
 ] refl
 
@@ -203,7 +203,7 @@ ending-cut x r false = sym (else-none r.ending)
     else-none None = refl
     else-none (Some z) = refl
 
-unread-cut : (x : Cut) (r : RowView) (b : Bool) → (cond b (ending_by ByDisconnection r) r).unread ≡ let_go b r.unread
+unread-cut : (x : Cut) (r : RowView) (b : Bool) → (cond b (ending_by ByDisconnection r) r).sends.values ≡ let_go b r.sends.values
 unread-cut x r true = refl
 unread-cut x r false = refl
 
@@ -230,7 +230,7 @@ seen_cut o x rows posted waiting left room causes q many =
       returned = kept-cut (λ (r : RowView). r.returned) x rows (λ r. refl) i;
       endings = each-column (λ (r : RowView). r.ending) (cut_row x) (λ c y. or_else y (ends_at o t (effect_of x) c)) 1 rows (λ k r e. ending-cut x r (reaches x r) ∙ ap (λ (z : Option Ending). or_else r.ending z) (hit k r e)) i;
       refusals = kept-cut (λ (r : RowView). r.refusal) x rows (λ r. refl) i;
-      unread = each-column (λ (r : RowView). r.unread) (cut_row x) (λ c vs. let_go (false || is_some (ends_at o t (effect_of x) c)) vs) 1 rows (λ k r e. unread-cut x r (reaches x r) ∙ ap (λ (z : Bool). let_go z r.unread) (is-some (reaches x r)) ∙ ap (λ (z : Option Ending). let_go (false || is_some z) r.unread) (hit k r e)) i;
+      unread = each-column (λ (r : RowView). r.sends.values) (cut_row x) (λ c vs. let_go (false || is_some (ends_at o t (effect_of x) c)) vs) 1 rows (λ k r e. unread-cut x r (reaches x r) ∙ ap (λ (z : Bool). let_go z r.sends.values) (is-some (reaches x r)) ∙ ap (λ (z : Option Ending). let_go (false || is_some z) r.sends.values) (hit k r e)) i;
       phases = kept-cut (λ (r : RowView). r.phase) x rows (λ r. refl) i;
       times = kept-cut (λ (r : RowView). r.time) x rows (λ r. refl) i;
       postings = posted;

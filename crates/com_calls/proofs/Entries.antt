@@ -18,7 +18,7 @@ use Rattle.com_model.specs.Apartments.{ends_sta}
 use Rattle.com_model.specs.State.{phases_by}
 use Rattle.com_model.specs.Waiting.{Posts, Delays, posted_last}
 use Rattle.com_state.specs.Parts.{CallTables, ObjectTables, Moment, Issuing, calls_after}
-use Rattle.com_calls.specs.Steps.{values_gone, entered_at, ended_at, left_at, returned_at, phased_at, posted_at, taken_at, grown_at, out_entry}
+use Rattle.com_calls.specs.Steps.{values_gone, entered_at, ended_at, left_at, returned_at, phased_at, posted_at, grown_at, out_entry}
 use Rattle.com_calls.specs.After.{judged_at, retried_at, asked_at, routed_at, cut_at}
 
 -- An entry that issues no call draws no causality.
@@ -102,19 +102,3 @@ after_quiet o m i t l (deed.Pending c w n) e = absurd cc
 after_quiet o m i t l (deed.Disconnect x hr) e = absurd cc
 after_quiet o m i t l (deed.Uninit a n) e = absurd cc
 after_quiet o m i t l _ e = none-drawn t
-
--- The values of a call may be taken before its Enter.
-set-twice : {X : Type 0} (xs : List X) (k : ℕ) (x y : X) → slice_set (slice_set xs k x) k y ≡ slice_set xs k y
-set-twice [] k x y = refl
-set-twice (z ∷ zs) zero x y = refl
-set-twice (z ∷ zs) (suc k) x y = ap (λ (ys : List _). z ∷ ys) (set-twice zs k x y)
-
-gone-twice : (c : ℕ) (xs : List (List Value)) → values_gone c (values_gone c xs) ≡ values_gone c xs
-gone-twice zero xs = refl
-gone-twice (suc k) xs = set-twice xs k [] []
-
-pub entered_after_taking : (o : ObjectTables) (m : Moment) (i : Issuing) (t : CallTables) (l c x a : ℕ) (k : Option ℕ) (vs : List Value) → calls_after o m i (taken_at t c) (record { lane = l; deed = deed.Enter c x a k vs }) ≡ calls_after o m i t (record { lane = l; deed = deed.Enter c x a k vs })
-entered_after_taking o m i t l c x a k vs =
-    after_enter o m i (taken_at t c) l c x a k vs
-    ∙ ap (λ (ys : List (List Value)). let u : CallTables = record (entered_at t (record { call = c; lane = l; apartment = a })) { unread = ys } in u) (gone-twice c t.unread)
-    ∙ sym (after_enter o m i t l c x a k vs)

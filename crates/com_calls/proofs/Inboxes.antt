@@ -20,6 +20,8 @@ use Rattle.com_refs_books.specs.Counting.{count_if}
 use Rattle.com_model.specs.declared.keeps.Issue.{Issue}
 use Rattle.com_calls.specs.declared.rows.Issued.{Issued}
 use Rattle.com_model.specs.declared.keeps.Leaving.{Leaving}
+use Rattle.com_base.specs.declared.standard.StdFields.{StdFields}
+use Rattle.com_calls.specs.Requests.{with_fields}
 use Rattle.com_calls.specs.Leaves.{joined, with_later, with_late_call}
 use Rattle.com_calls.proofs.Leaves.{joined_grown}
 use Rattle.com_calls.specs.Kept.{Kept, with_tables, with_call, waits_at, inbox_at}
@@ -453,8 +455,8 @@ left_waits_not c hr v a r = ended_waits_not (ByLeave hr v) a r
 pub phased_waits_not : (p : Phase) → is_queued p ≡ false → (a : ℕ) (r : RowView) → row_waits a (phased p r) ≡ false
 phased_waits_not p h a r = and-none (r.apartment == a) (is_queued p && (is_none r.admission && is_none r.ending)) (ap (λ (b : Bool). b && (is_none r.admission && is_none r.ending)) h)
 
-pub issues-length : (rows : List RowView) (posted : List ℕ) (waiting : Queues) (room causes : ℕ) (later : List (Option Leaving)) (b : Kept) → with_later (kept_of rows posted waiting room causes) later ≡ b → length b.tables.issues ≡ length rows
-issues-length rows posted waiting room causes later b e = ap (λ (k : Kept). length k.tables.issues) (sym e) ∙ length-map rows (λ (r : RowView). Some r.issue)
+pub issues-length : (rows : List RowView) (posted : List ℕ) (waiting : Queues) (room causes : ℕ) (later : List (Option Leaving)) (fss : List (List StdFields)) (b : Kept) → with_fields (with_later (kept_of rows posted waiting room causes) later) fss ≡ b → length b.tables.issues ≡ length rows
+issues-length rows posted waiting room causes later fss b e = ap (λ (k : Kept). length k.tables.issues) (sym e) ∙ length-map rows (λ (r : RowView). Some r.issue)
 
 pub drawn-low : (b : Bool) → count_if b ≤ 1
 drawn-low true = omega arith
@@ -468,10 +470,10 @@ snoc g [] r = refl
 snoc g (x ∷ xs) r = ap (λ (ys : List _). g x ∷ ys) (snoc g xs r)
 
 -- What contracts see of one call more.
-pub seen_grown : (x : Issue) (made : Issued) (clock : ℕ) (rows : List RowView) (ys : List (Option Leaving)) (posted : List ℕ) (waiting : Queues) (room causes drawn : ℕ) → length ys ≤ length rows
-    → with_later (kept_of (rows ++ new_row_of x made clock ∷ []) posted waiting room (drawn + causes)) ys
-    ≡ with_call (with_later (kept_of rows posted waiting room causes) ys) made.apartment (grown_at (with_later (kept_of rows posted waiting room causes) ys).tables x (record { refusal = made.refusal; values = made.values }) clock drawn)
-seen_grown x made clock rows ys posted waiting room causes drawn h =
+pub seen_grown : (x : Issue) (made : Issued) (clock : ℕ) (rows : List RowView) (ys : List (Option Leaving)) (fss : List (List StdFields)) (posted : List ℕ) (waiting : Queues) (room causes drawn : ℕ) → length ys ≤ length rows
+    → with_fields (with_later (kept_of (rows ++ new_row_of x made clock ∷ []) posted waiting room (drawn + causes)) ys) (fss ++ made.values.fields ∷ [])
+    ≡ with_call (with_fields (with_later (kept_of rows posted waiting room causes) ys) fss) made.apartment made.values.fields (grown_at (with_later (kept_of rows posted waiting room causes) ys).tables x (record { refusal = made.refusal; values = made.values.values }) clock drawn)
+seen_grown x made clock rows ys fss posted waiting room causes drawn h =
     let r : RowView = new_row_of x made clock in
     let e : length (map (λ (r : RowView). r.leaving) rows) ≡ length rows = length-map rows (λ (r : RowView). r.leaving) in
     λ i. record {
@@ -482,13 +484,14 @@ seen_grown x made clock rows ys posted waiting room causes drawn h =
         returned = snoc (λ (r : RowView). r.returned) rows r i;
         endings = snoc (λ (r : RowView). r.ending) rows r i;
         refusals = snoc (λ (r : RowView). r.refusal) rows r i;
-        unread = snoc (λ (r : RowView). r.unread) rows r i;
+        unread = snoc (λ (r : RowView). r.sends.values) rows r i;
         phases = snoc (λ (r : RowView). r.phase) rows r i;
         times = snoc (λ (r : RowView). r.time) rows r i;
         postings = posted;
         causes = drawn + causes;
       };
       apartments = snoc (λ (r : RowView). r.apartment) rows r i;
+      fields = fss ++ made.values.fields ∷ [];
       room = room;
       inboxes = length waiting.queues;
     }

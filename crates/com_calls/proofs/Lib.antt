@@ -8,4 +8,5 @@ pub mod Delays
 pub mod Numbered
 pub mod Leaves
 pub mod Reachables
+pub mod Requested
 mod Walks

@@ -1,7 +1,6 @@
 -- How a row keeps what is seen of it. No public clause cites this module.
-use Rattle.std.specs.Prelude.{ℕ, suc, ◌≡◌, ◌<◌, false, List, [], length, slice_index_or}
+use Rattle.std.specs.Prelude.{ℕ, suc, ◌≡◌, ◌<◌, false, List, length, slice_index_or}
 use Rattle.std.specs.Prelude.{Option, Some, None}
-use Rattle.com_base.specs.declared.value.Value.{Value}
 use Rattle.com_model.specs.declared.keeps.Admission.{Admission}
 use Rattle.com_model.specs.declared.keeps.Leaving.{Leaving}
 use Rattle.com_model.specs.declared.keeps.Ending.{Ending}
@@ -10,7 +9,8 @@ use Rattle.com_calls.specs.declared.rows.Fate.{Fate}
 use Rattle.com_calls.specs.declared.rows.Fate.TheVariants.{Sent, Left, Ended}
 use Rattle.com_model.specs.Endings.{is_leave}
 use Rattle.com_calls.specs.declared.rows.Entered.{Entered}
-use Rattle.com_calls.specs.Rows.{RowView}
+use Rattle.com_exchange.specs.Messages.{Letter}
+use Rattle.com_calls.specs.Rows.{RowView, no_letter}
 
 -- What the Enter of a call says, by its number.
 abbrev pub admission_of : (call : ℕ) → Option Entered → Option Admission
@@ -34,9 +34,9 @@ IsOther (Ended x) = is_leave (Some x) ≡ false
 IsOther _ = Unit {0}
 
 -- What a call sends, until that is let go.
-abbrev pub unread_of : Fate → List Value
-unread_of (Sent vs) = vs
-unread_of _ = []
+abbrev pub sends_of : Fate → Letter
+sends_of (Sent m) = m
+sends_of _ = no_letter
 
 -- Each row has the number of its call, from 1.
 abbrev pub IsNumbered : List RowView → Type 0

@@ -19,6 +19,7 @@ abbrev pub kept_of : List RowView → (posted : List ℕ) → (waiting : Queues)
 kept_of rows posted waiting room causes = record {
   tables = call_tables rows posted causes;
   apartments = apartments_of rows;
+  fields = [];
   room = room;
   inboxes = length waiting.queues;
 }

@@ -8,3 +8,4 @@ pub mod After
 pub mod Leaves
 pub mod Enclosures
 pub mod Reached
+pub mod Requests

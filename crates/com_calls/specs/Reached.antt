@@ -8,7 +8,7 @@ use Rattle.com_model.specs.declared.keeps.Ending.TheVariants.{ByDisconnection}
 use Rattle.com_model.specs.Calls.{is_marshalled}
 use Rattle.com_model.specs.Endings.{can_be_cut}
 use Rattle.com_calls.specs.declared.rows.Cut.{Cut}
-use Rattle.com_calls.specs.Rows.{RowView, changed_row, ending_by, row_at, reaches}
+use Rattle.com_calls.specs.Rows.{RowView, changed_row, ending_by, no_letter, row_at, reaches}
 
 -- A disconnection can still change what is kept of the call: its route marshals, and it is neither entered nor
 -- answered.
@@ -31,7 +31,7 @@ with_listed route c xs = if is_marshalled route then xs ++ c ∷ [] else xs
 
 -- An answered call sends nothing any more.
 abbrev pub IsLetGo : RowView → Type 0
-IsLetGo r = is_some r.ending ≡ true → r.unread ≡ []
+IsLetGo r = is_some r.ending ≡ true → r.sends ≡ no_letter
 
 abbrev pub AreLetGo : List RowView → Type 0
 AreLetGo [] = Unit {0}

@@ -3,6 +3,7 @@ use Rattle.std.specs.Prelude.{ℕ, zero, suc, Bool, true, false, ◌==◌, ◌&&
 use Rattle.std.specs.Prelude.{None, slice_get}
 use Rattle.com_base.specs.declared.hresult.HResult.{HResult}
 use Rattle.com_base.specs.declared.value.Value.{Value}
+use Rattle.com_exchange.specs.Messages.{Letter}
 use Rattle.com_model.specs.declared.keeps.Admission.{Admission}
 use Rattle.com_model.specs.declared.keeps.Leaving.{Leaving}
 use Rattle.com_model.specs.declared.keeps.Ending.{Ending}
@@ -29,7 +30,7 @@ pub record RowView : Type 0 where
   pub returned : Bool
   pub ending : Option Ending
   pub refusal : HResult
-  pub unread : List Value
+  pub sends : Letter
   pub phase : Phase
   pub time : ℕ
 
@@ -41,7 +42,7 @@ call_tables rows postings causes = record {
   returned = map (λ (r : RowView). r.returned) rows;
   endings = map (λ (r : RowView). r.ending) rows;
   refusals = map (λ (r : RowView). r.refusal) rows;
-  unread = map (λ (r : RowView). r.unread) rows;
+  unread = map (λ (r : RowView). r.sends.values) rows;
   phases = map (λ (r : RowView). r.phase) rows;
   times = map (λ (r : RowView). r.time) rows;
   postings = postings;
@@ -58,11 +59,15 @@ abbrev pub changed_row : (RowView → RowView) → (call : ℕ) → List RowView
 changed_row f zero rows = rows
 changed_row f (suc k) rows = changed_in f k rows
 
+-- What a call sends once that is let go.
+abbrev pub no_letter : Letter
+no_letter = record { values = []; fields = [] }
+
 abbrev pub admitting : Admission → RowView → RowView
-admitting a r = record r { admission = Some a; unread = [] }
+admitting a r = record r { admission = Some a; sends = no_letter }
 
 abbrev pub ending_by : Ending → RowView → RowView
-ending_by x r = record r { ending = or_else r.ending (Some x); unread = [] }
+ending_by x r = record r { ending = or_else r.ending (Some x); sends = no_letter }
 
 -- The Leave that fixes the answer, where none is fixed.
 abbrev pub first_left : Option Ending → Option Leaving → Leaving → Option Leaving
@@ -83,7 +88,7 @@ abbrev pub left_with : (call : ℕ) → HResult → Option Value → RowView →
 left_with c hr v r = record r {
   leaving = first_left r.ending r.leaving (record { call = c; hr = hr; value = v });
   ending = or_else r.ending (Some (ByLeave hr v));
-  unread = [];
+  sends = no_letter;
 }
 
 abbrev pub returning : RowView → RowView
@@ -92,8 +97,8 @@ returning r = record r { returned = true }
 abbrev pub phased : Phase → RowView → RowView
 phased p r = record r { phase = p }
 
-abbrev pub taken : RowView → RowView
-taken r = record r { unread = [] }
+abbrev pub letting_go : RowView → RowView
+letting_go r = record r { sends = no_letter }
 
 -- The row of a call at its Out entry.
 abbrev pub new_row_of : Issue → Issued → (clock : ℕ) → RowView
@@ -105,7 +110,7 @@ new_row_of x i now = record {
   returned = false;
   ending = None;
   refusal = i.refusal;
-  unread = i.values;
+  sends = i.values;
   phase = Unposted;
   time = now;
 }

@@ -50,9 +50,6 @@ posted_at t c = record t {
   postings = posted_last (Posts c) t.postings;
 }
 
-abbrev pub taken_at : CallTables → ℕ → CallTables
-taken_at t c = record t { unread = values_gone c t.unread }
-
 -- A call that is posted, or waits for a time, was issued.
 abbrev pub is_known : CallTables → PostEffect → Type 0
 is_known t (Posts c) = (1 ≤ c) × (c ≤ length t.issues)

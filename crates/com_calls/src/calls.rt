@@ -1,7 +1,7 @@
 //! The calls and their inboxes.
 
 ghost use Rattle.std.specs.Prelude.{◌≡◌, ◌+◌, ◌<◌, ◌≤◌, ◌^◌, ℕ, Bool, List, Option, [], length, Some, None};
-ghost use Rattle.std.specs.Prelude.{is_some, true, false, OnOk, OnErr, IfOk};
+ghost use Rattle.std.specs.Prelude.{is_some, true, false, OnOk, OnErr, IfOk, Err};
 ghost use Rattle.com_model.specs.declared.deeds.Deed.TheVariants as deed;
 ghost use Rattle.com_model.specs.Calls.{issues, leaves};
 ghost use Rattle.com_model.specs.Apartments.{ends_sta};
@@ -20,14 +20,18 @@ ghost use Rattle.com_model.specs.Waiting.{post_effect, retries};
 ghost use Rattle.com_model.specs.Frames.{value_reference};
 ghost use Rattle.com_model.specs.Places.{left_value};
 ghost use Rattle.com_calls.specs.Kept.{no_tables, with_tables, with_room, with_call, inbox_at, IsNamed};
+ghost use Rattle.com_calls.specs.Kept.{fields_at, is_open};
+ghost use Rattle.com_exchange.specs.Messages.{any_lost, lost_parameter};
+ghost use Rattle.com_exchange.specs.declared.packets.ExchangeError.TheVariants.{NotConnected};
 ghost use Rattle.com_calls.specs.Steps.{entered_at, ended_at, left_at, returned_at, phased_at, posted_at};
-ghost use Rattle.com_calls.specs.Steps.{taken_at, grown_at, out_entry, is_known, delay_of};
+ghost use Rattle.com_calls.specs.Steps.{grown_at, out_entry, is_known, delay_of};
 
+use crate::packed::Packed;
 use crate::postings::Postings;
 use crate::rows::{CallRow, Cut, Issued, Left};
 use crate::{cuts, later, rows, waits};
 use com_base::{HOST_STA, HResult, Memory, RefValue, Rows, Value};
-use com_exchange::{Answer, Message};
+use com_exchange::{Answer, ExchangeError, Packets};
 use com_filter::{LEAST_DELAY_MS, Verdict};
 use com_inbox::Inbox;
 use com_model::{Admission, Deed, Ending, Issue, Phase, Route};
@@ -35,12 +39,15 @@ use std::alloc::Global;
 use std::marker::Model;
 
 /// All calls by their numbers, from 1, and the inboxes of apartments, seen as the tables of calls, the
-/// apartment of each call's target, the number of calls with room and the number of apartments with an inbox.
+/// apartment of each call's target, the fields of the packets of each call's request, the number of calls with room
+/// and the number of apartments with an inbox.
 #[derive(Debug, Drop)]
 pub struct Calls {
     rows: Vec<CallRow>,
     // All calls that were posted, in the order of their last posting: for proofs alone.
     posted: Postings,
+    // The packets of the calls' requests: for proofs alone.
+    packed: Packed,
     // A queue for each apartment, of the posted calls that are neither judged, entered nor answered.
     waiting: Inbox,
     // The calls that wait for a time, and some that did: what waits no more is taken out where a call comes
@@ -62,16 +69,18 @@ impl Model for Calls {
     ghost use Rattle.com_calls.specs.Inside.{kept_of, IsKept, IsCovered};
     ghost use Rattle.com_calls.specs.Fates.{IsNumbered};
     ghost use Rattle.com_calls.specs.Reached.{IsListed, AreLetGo};
+    ghost use Rattle.com_calls.specs.Requests.{AreRequested, with_fields};
 
     ghost Value = { Kept };
 
-    ghost view = { λ s. with_later (kept_of s.rows.items s.posted.calls s.waiting s.room s.causes)
-        s.later.items };
+    ghost view = { λ s. with_fields (with_later (kept_of s.rows.items s.posted.calls s.waiting s.room s.causes)
+        s.later.items) s.packed.fields };
 
     ghost invariant = { λ s. IsKept s.rows.items s.posted.calls s.waiting (vec_capacity s.rows) s.room s.causes
         × IsCovered s.rows.items s.delayed.items (vec_capacity s.delayed) s.room × IsNumbered s.rows.items
         × (s.room ≤ vec_capacity s.later) × (vec_len s.later ≤ vec_len s.rows)
-        × IsListed s.rows.items s.reachable.items (vec_capacity s.reachable) s.room × AreLetGo s.rows.items };
+        × IsListed s.rows.items s.reachable.items (vec_capacity s.reachable) s.room × AreLetGo s.rows.items
+        × AreRequested s.rows.items s.packed.fields };
 }
 
 impl Calls {
@@ -79,12 +88,14 @@ impl Calls {
     pub fn new(alloc: Global) -> Result<Self, Memory>
         ensures tables { IfOk result (λ calls. calls.tables ≡ no_tables) }
         ensures apartments { IfOk result (λ calls. calls.apartments ≡ []) }
+        ensures fields { IfOk result (λ calls. calls.fields ≡ []) }
     {
         let waiting = Inbox::new(alloc, 0)?;
         let delayed = Vec::with_capacity(alloc, 1)?;
         Ok(Calls {
             rows: Vec::new(alloc),
             posted: Postings::none(),
+            packed: Packed::none(),
             waiting,
             delayed,
             reachable: Vec::new(alloc),
@@ -131,9 +142,9 @@ impl Calls {
         requires room { length self.old.tables.issues < self.old.room }
         requires inbox { issued.apartment < self.old.inboxes }
         ensures { (o : ObjectTables) (filtered : Bool) (bytes : Option (List ℕ)) → self.new
-            ≡ with_call self.old issued.apartment (calls_after o
+            ≡ with_call self.old issued.apartment issued.values.fields (calls_after o
             (record { is_outermost = is_outermost; filtered = filtered; clock = clock })
-            (record { refusal = issued.refusal; values = issued.values })
+            (record { refusal = issued.refusal; values = issued.values.values })
             self.old.tables (out_entry issue bytes)) }
     {
         self.push(issue, issued, is_outermost, clock);
@@ -271,6 +282,7 @@ impl Calls {
         ensures endings { result ≡ length self.now.tables.endings }
         ensures unread { result ≡ length self.now.tables.unread }
         ensures apartments { result ≡ length self.now.apartments }
+        ensures fields { result ≡ length self.now.fields }
     {
         let _room = self.room;
         self.rows.len() as u32
@@ -380,14 +392,27 @@ impl Calls {
         }
     }
 
-    /// Reads what a call sends, until it is entered or answered; then there are no values. The only error is
-    /// want of memory.
-    pub fn read_values(&self, alloc: Global, call: u32) -> Result<Rows<Value>, Memory>
-        ensures { IfOk result (λ values. values ≡ from_one self.now.tables.unread call []) }
+    /// Receives what a call sends, until it is entered or answered; then there are no values. Of a request its bytes
+    /// are read, and the packet of each reference is found by the five fields that stand there. Where the packets of
+    /// several parameters are not outstanding, the first of them is answered. The only other error is want of memory.
+    pub fn receive<P: Packets>(
+        &self,
+        alloc: Global,
+        call: u32,
+        packets: &P,
+    ) -> Result<Rows<Value>, ExchangeError>
+        ensures values { IfOk result (λ values. values ≡ from_one self.now.tables.unread call []) }
+        ensures all { IfOk result (λ values. is_open self.now call ≡ true
+            → any_lost (P.named packets.now) (fields_at self.now call) ≡ false) }
+        ensures one { (n : ℕ) → result ≡ Err (NotConnected n)
+            → any_lost (P.named packets.now) (fields_at self.now call) ≡ true }
+        ensures lost { (n : ℕ) → result ≡ Err (NotConnected n)
+            → lost_parameter (P.named packets.now) (from_one self.now.tables.unread call [])
+            (fields_at self.now call) ≡ Some n }
     {
         match rows::row_of(&self.rows, call) {
             None => Ok(Rows::new(alloc)),
-            Some(row) => row.read_values(alloc),
+            Some(row) => row.receive(alloc, packets),
         }
     }
 
@@ -416,14 +441,6 @@ impl Calls {
         ensures { result ≡ self.now.tables.causes }
     {
         self.causes
-    }
-
-    /// Takes what a call sends, for its Enter entry. It takes no memory, and the call keeps nothing of it.
-    pub fn take_values(&mut self, alloc: Global, call: u32) -> Message
-        ensures values { result ≡ from_one self.old.tables.unread call [] }
-        ensures taken { self.new ≡ with_tables self.old (taken_at self.old.tables call) }
-    {
-        rows::take(&mut self.rows, alloc, call)
     }
 
     // A body is entered.
@@ -509,9 +526,10 @@ impl Calls {
         requires number { issue.call ≡ length self.old.tables.issues + 1 }
         requires room { length self.old.tables.issues < self.old.room }
         requires inbox { issued.apartment < self.old.inboxes }
-        ensures { self.new ≡ with_call self.old issued.apartment (grown_at self.old.tables issue
-            (record { refusal = issued.refusal; values = issued.values }) clock (count_if is_outermost)) }
+        ensures { self.new ≡ with_call self.old issued.apartment issued.values.fields (grown_at self.old.tables issue
+            (record { refusal = issued.refusal; values = issued.values.values }) clock (count_if is_outermost)) }
     {
+        self.packed = self.packed.with_last(&issued.values);
         cuts::list(&mut self.reachable, issue.call, issue.route);
         self.rows.push_reserved(CallRow::new(issue, issued, clock));
         self.causes = causalities_of(is_outermost) + self.causes;

@@ -1,7 +1,7 @@
 //! Laws of what is kept of calls, each stated on a function that does nothing.
 
 ghost use Rattle.std.specs.Prelude.{◌≡◌, ◌≤◌, ℕ, List, Option, Some, length};
-ghost use Rattle.com_base.specs.declared.value.Value.{Value};
+ghost use Rattle.com_base.specs.declared.standard.StdFields.{StdFields};
 ghost use Rattle.com_model.specs.declared.scenario.Scenario.{Scenario};
 ghost use Rattle.com_model.specs.declared.deeds.Entry.{Entry};
 ghost use Rattle.com_model.specs.declared.deeds.Deed.TheVariants as deed;
@@ -13,20 +13,11 @@ ghost use Rattle.com_calls.specs.Waits.{next_wait};
 ghost use Rattle.com_state.specs.Parts.{ObjectTables, CallTables, Moment, Issuing, calls_of, calls_after};
 ghost use Rattle.com_state.specs.Parts.{objects_after, named_at, issue_at};
 ghost use Rattle.com_calls.specs.Kept.{Kept, IsNamed, no_tables, with_tables, with_call};
-ghost use Rattle.com_calls.specs.Steps.{taken_at, out_entry};
+ghost use Rattle.com_calls.specs.Steps.{out_entry};
 
 /// Before the first entry there are no calls.
 pub fn no_calls_at_first()
     ensures { (s : Scenario) → calls_of (first_tables s) ≡ no_tables }
-{}
-
-/// The values of a call may be taken before its Enter entry is applied.
-pub fn values_are_taken_first()
-    ensures { (o : ObjectTables) (m : Moment) (i : Issuing) (t : CallTables)
-        (lane call object apartment : ℕ) (k : Option ℕ) (values : List Value)
-        → calls_after o m i (taken_at t call)
-        (record { lane = lane; deed = deed.Enter call object apartment k values })
-        ≡ calls_after o m i t (record { lane = lane; deed = deed.Enter call object apartment k values }) }
 {}
 
 /// The apartments that are kept stay those of the calls' targets: where an object is made or released, and
@@ -35,9 +26,9 @@ pub fn apartments_stay_named()
     ensures objects { (o : ObjectTables) (e : Entry) (b : Kept) → IsNamed o b → ((c : ℕ)
         → object_of (issue_at b.tables c) ≤ length o.makings) → IsNamed (objects_after o e) b }
     ensures calls { (o : ObjectTables) (m : Moment) (i : Issuing) (x : Issue) (bytes : Option (List ℕ))
-        (a : ℕ) (b : Kept) → IsNamed o b → length b.apartments ≡ length b.tables.issues
+        (a : ℕ) (fs : List StdFields) (b : Kept) → IsNamed o b → length b.apartments ≡ length b.tables.issues
         → named_at o (object_of (Some x)) ≡ a
-        → IsNamed o (with_call b a (calls_after o m i b.tables (out_entry x bytes))) }
+        → IsNamed o (with_call b a fs (calls_after o m i b.tables (out_entry x bytes))) }
     ensures others { (o : ObjectTables) (b : Kept) (t : CallTables) → IsNamed o b
         → t.issues ≡ b.tables.issues → IsNamed o (with_tables b t) }
 {}

@@ -7,11 +7,12 @@ mod calls;
 mod cuts;
 mod later;
 mod laws;
+mod packed;
 mod postings;
 mod rows;
 mod waits;
 
 pub use calls::Calls;
 pub use com_base::Memory;
-pub use laws::{apartments_stay_named, no_calls_at_first, ticks_are_waits, values_are_taken_first};
+pub use laws::{apartments_stay_named, no_calls_at_first, ticks_are_waits};
 pub use rows::{CallRow, Cut, Enclosed, Issued, Left};

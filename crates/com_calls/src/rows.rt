@@ -1,22 +1,23 @@
 //! A row for each call, and what an entry changes in one row.
 
-ghost use Rattle.std.specs.Prelude.{◌≡◌, ◌&&◌, false, is_none, is_some, map, [], IfOk};
+ghost use Rattle.std.specs.Prelude.{◌≡◌, ◌&&◌, ℕ, Err, IfOk, Some, false, is_none, is_some, true};
 ghost use Rattle.com_model.specs.Endings.{is_leave};
 ghost use Rattle.com_calls.specs.Rows.{changed_row, admitting, ending_by, left_with, returning, phased};
-ghost use Rattle.com_calls.specs.Rows.{taken, new_row_of, row_at, reaches, late_of, late_row};
+ghost use Rattle.com_calls.specs.Rows.{letting_go, new_row_of, row_at, reaches, late_of, late_row};
 ghost use Rattle.com_calls.specs.Fates.{IsNumbered};
 ghost use Rattle.com_calls.specs.Reached.{is_reachable};
-ghost use Rattle.com_model.specs.Lists.{from_one, or_else};
+ghost use Rattle.com_exchange.specs.Messages.{any_lost, lost_parameter};
+ghost use Rattle.com_exchange.specs.declared.packets.ExchangeError.TheVariants.{NotConnected};
+ghost use Rattle.com_model.specs.Lists.{or_else};
 ghost use Rattle.com_model.specs.Frames.{value_reference};
 ghost use Rattle.com_model.specs.Places.{left_value};
 ghost use Rattle.std.specs.Option.{option_copied};
 
 use com_base::{HResult, Memory, RefValue, Rows, Value};
-use com_exchange::{Answer, Message};
+use com_exchange::{Answer, ExchangeError, Message, Packets};
 use com_model::{Admission, Ending, Issue, Phase, Route};
 use std::alloc::Global;
 use std::marker::Model;
-use std::mem;
 
 // What has become of a call. What it sends is let go before its body can leave, so both lie in one field. A
 // Leave that comes after the answer stands apart.
@@ -101,7 +102,7 @@ pub struct CallRow {
 
 impl Model for CallRow {
     ghost use Rattle.com_calls.specs.Rows.{RowView};
-    ghost use Rattle.com_calls.specs.Fates.{IsOther, admission_of, leaving_of, ending_of, unread_of};
+    ghost use Rattle.com_calls.specs.Fates.{IsOther, admission_of, leaving_of, ending_of, sends_of};
 
     ghost Value = { RowView };
 
@@ -121,7 +122,7 @@ impl Model for CallRow {
       returned = s.has_returned;
       ending = ending_of s.fate;
       refusal = s.refusal;
-      unread = unread_of s.fate;
+      sends = sends_of s.fate;
       phase = s.phase;
       time = s.time;
     } };
@@ -290,12 +291,22 @@ impl CallRow {
         self.refusal
     }
 
-    /// Reads what it sends, until that is let go. The only error is want of memory.
-    pub fn read_values(&self, alloc: Global) -> Result<Rows<Value>, Memory>
-        ensures { IfOk result (λ values. values ≡ self.now.unread) }
+    /// Receives what it sends, until that is let go; then there are no values. Where the packets of several parameters
+    /// are not outstanding, the first of them is answered. The only other error is want of memory.
+    pub fn receive<P: Packets>(
+        &self,
+        alloc: Global,
+        packets: &P,
+    ) -> Result<Rows<Value>, ExchangeError>
+        ensures values { IfOk result (λ values. values ≡ self.now.sends.values) }
+        ensures all { IfOk result (λ values. any_lost (P.named packets.now) self.now.sends.fields ≡ false) }
+        ensures one { (n : ℕ) → result ≡ Err (NotConnected n)
+            → any_lost (P.named packets.now) self.now.sends.fields ≡ true }
+        ensures lost { (n : ℕ) → result ≡ Err (NotConnected n)
+            → lost_parameter (P.named packets.now) self.now.sends.values self.now.sends.fields ≡ Some n }
     {
         match &self.fate {
-            Fate::Sent(message) => message.read(alloc),
+            Fate::Sent(message) => message.receive(alloc, packets),
             _ => Ok(Rows::new(alloc)),
         }
     }
@@ -355,7 +366,7 @@ impl CallRow {
 
     // What the call sends is let go.
     fn let_go(&mut self)
-        ensures { self.new ≡ taken self.old }
+        ensures { self.new ≡ letting_go self.old }
     {
         if let Fate::Sent(_) = self.fate {
             self.fate = Fate::Open;
@@ -391,17 +402,6 @@ impl CallRow {
         }
         self.fate = Fate::Left(answer);
         None
-    }
-
-    // What the call sends is taken away. It takes no memory.
-    fn take(&mut self, alloc: Global) -> Message
-        ensures row { self.new ≡ taken self.old }
-        ensures values { result ≡ self.old.unread }
-    {
-        match &mut self.fate {
-            Fate::Sent(message) => mem::replace(message, Message::of_values(Rows::new(alloc))),
-            _ => Message::of_values(Rows::new(alloc)),
-        }
     }
 
     // The call comes back to its caller.
@@ -489,16 +489,4 @@ pub fn phase(rows: &mut [CallRow], call: u32, phase: Phase)
         return;
     }
     rows[call as usize - 1].set_phase(phase);
-}
-
-/// What a call sends is taken away. It takes no memory.
-#[tactic(auto, using(crate::proofs::Changed::changed_past, crate::proofs::Changed::changed_none, crate::proofs::RowReads::read_past, crate::proofs::RowReads::read_none))]
-pub fn take(rows: &mut [CallRow], alloc: Global, call: u32) -> Message
-    ensures rows { rows.new ≡ changed_row taken call rows.old }
-    ensures values { result ≡ from_one (map (λ r. r.unread) rows.old) call [] }
-{
-    if call == 0 || call as usize > rows.len() {
-        return Message::of_values(Rows::new(alloc));
-    }
-    rows[call as usize - 1].take(alloc)
 }

@@ -5,4 +5,5 @@ pub mod Receivings
 pub mod Ranging
 pub mod Rereading
 mod Answering
+pub mod Letters
 pub mod KindLemmas

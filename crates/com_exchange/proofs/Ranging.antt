@@ -1,5 +1,5 @@
 -- The numbers of values that travel are in the ranges of their types, and what was written of them is read again.
-use Rattle.std.proofs.Common.{◌≡◌, ℕ, zero, suc, ◌+◌, ◌*◌, ◌^◌, ◌<◌, ◌≤◌, List, [], ◌∷◌, length, get_or, drop, map, Option, Some, None, Ok, sym, ap, subst, ◌∙◌, arith, slice_get}
+use Rattle.std.proofs.Common.{◌≡◌, ℕ, zero, suc, ◌+◌, ◌*◌, ◌^◌, ◌<◌, ◌≤◌, List, [], ◌∷◌, length, get_or, drop, map, Option, Some, None, Result, Ok, sym, ap, subst, ◌∙◌, arith, slice_get}
 use Rattle.std.specs.Prelude.{slice_index}
 use Rattle.std.proofs.Math.Seq.{drop-cons}
 use Rattle.std.proofs.Math.ListN.{drop_of_length-le}
@@ -13,14 +13,15 @@ use Rattle.com_base.specs.declared.value.Value.TheVariants as value
 use Rattle.com_base.specs.Guids.{IsBytes}
 use Rattle.ndr_args.specs.declared.wire.Wire.{Wire}
 use Rattle.ndr_args.specs.declared.wire.Wire.TheVariants as wire
+use Rattle.ndr_args.specs.declared.wire.ArgFault.{ArgFault}
 use Rattle.ndr_args.specs.Written.{CanSendAll, HasKind, IsInRange}
 use Rattle.ndr_args.proofs.Streams.{as_many}
 use Rattle.com_model.specs.Lists.{first, without_first}
 use Rattle.com_model.specs.Values.{carried, cause_guid, request_bytes, wires}
 use Rattle.com_exchange.specs.Messages.{TravelAs}
-use Rattle.com_exchange.specs.Received.{Sendable, packet_in_fields, reference_in_fields, request_in}
+use Rattle.com_exchange.specs.Received.{Sendable, fields_of_request, fields_read, packet_in_fields, reference_in_fields, request_in}
 use Rattle.com_exchange.specs.Wires.{packets_of, wire_of}
-use Rattle.com_exchange.proofs.Receivings.{again}
+use Rattle.com_exchange.proofs.Receivings.{again, fields_back, wires_again}
 use Rattle.com_exchange.proofs.Streams.{wires_next}
 
 -- ---- a GUID
@@ -103,17 +104,27 @@ can_send (k ∷ ks) (value.Ref (Some r) ∷ vs) fs p = (ref_kind k (first fs) p.
 few_wires : (ks : List Kind) (ws : List Wire) → CanSendAll ks ws → length ks ≤ 4 → 0x20000 + 4 * length ws ≤ 2 ^ 32
 few_wires ks ws p h = let e : length ks ≡ length ws = as_many ks ws p in omega (arith, e, h)
 
--- What was written is read again.
-pub read_again : (cause : ℕ) (ks : List Kind) (vs : List Value) (fs : List StdFields) → cause < 2 ^ 32 → length ks ≤ 4 → TravelAs ks vs
-    → map reference_in_fields fs ≡ carried vs → AllByRecursion IsInRange (wires vs fs)
-    → request_in ks (request_bytes cause vs fs) ≡ Ok (record { cause = cause_guid cause; values = vs; packets = map packet_in_fields fs })
-read_again cause ks vs fs short few travel named in_range =
+sendable_so : (cause : ℕ) (ks : List Kind) (vs : List Value) (fs : List StdFields) → cause < 2 ^ 32 → length ks ≤ 4 → TravelAs ks vs
+    → map reference_in_fields fs ≡ carried vs → AllByRecursion IsInRange (wires vs fs) → Sendable cause ks vs fs
+sendable_so cause ks vs fs short few travel named in_range =
     let sends : CanSendAll ks (wires vs fs) = can_send ks vs fs travel in
-    let can : Sendable cause ks vs fs = record {
+    record {
       short = short;
       sendable = sends;
       in_range = in_range;
       few = few_wires ks (wires vs fs) sends few;
       named = named;
-    } in
-    again cause ks vs fs can
+    }
+
+-- What was written is read again.
+pub read_again : (cause : ℕ) (ks : List Kind) (vs : List Value) (fs : List StdFields) → cause < 2 ^ 32 → length ks ≤ 4 → TravelAs ks vs
+    → map reference_in_fields fs ≡ carried vs → AllByRecursion IsInRange (wires vs fs)
+    → request_in ks (request_bytes cause vs fs) ≡ Ok (record { cause = cause_guid cause; values = vs; packets = map packet_in_fields fs })
+read_again cause ks vs fs short few travel named in_range = again cause ks vs fs (sendable_so cause ks vs fs short few travel named in_range)
+
+pub fields_again : (cause : ℕ) (ks : List Kind) (vs : List Value) (fs : List StdFields) → cause < 2 ^ 32 → length ks ≤ 4 → TravelAs ks vs
+    → map reference_in_fields fs ≡ carried vs → AllByRecursion IsInRange (wires vs fs)
+    → fields_of_request ks (request_bytes cause vs fs) ≡ fs
+fields_again cause ks vs fs short few travel named in_range =
+    ap (λ (r : Result (List Wire) ArgFault). fields_read r) (wires_again cause ks vs fs (sendable_so cause ks vs fs short few travel named in_range))
+    ∙ fields_back vs fs named

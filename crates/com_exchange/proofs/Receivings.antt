@@ -21,7 +21,7 @@ use Rattle.ndr_args.proofs.Streams.{args_written, of_again}
 use Rattle.com_model.specs.Values.{carried, wires, cause_guid, request_bytes}
 use Rattle.com_exchange.specs.declared.receiving.Request.{Request}
 use Rattle.com_exchange.specs.declared.receiving.RequestError.{RequestError}
-use Rattle.com_exchange.specs.Received.{reference_in_fields, packet_in_fields, value_in, packet_in, values_in, packets_in, with_wires, with_header, Sendable, SentIsReceived}
+use Rattle.com_exchange.specs.Received.{reference_in_fields, packet_in_fields, value_in, packet_in, values_in, packets_in, fields_in, with_wires, with_header, Sendable, SentIsReceived}
 
 -- ---- the loops
 
@@ -95,6 +95,20 @@ packets_back (value.Ref (Some r) ∷ vs) [] named = absurd (cc)
 packets_back (value.Ref (Some r) ∷ vs) (f ∷ fs) named =
     let rest : map reference_in_fields fs ≡ carried vs = cc in
     ap (λ (l : List ℕ). packet_in_fields f ∷ l) (packets_back vs fs rest)
+
+pub fields_back : (vs : List Value) (fs : List StdFields) → map reference_in_fields fs ≡ carried vs → fields_in (wires vs fs) ≡ fs
+fields_back [] [] named = refl
+fields_back [] (f ∷ fs) named = absurd (cc)
+fields_back (value.Int n ∷ vs) fs named = fields_back vs fs named
+fields_back (value.Bool b ∷ vs) fs named = fields_back vs fs named
+fields_back (value.Text t ∷ vs) fs named = fields_back vs fs named
+fields_back (value.Bytes t ∷ vs) fs named = fields_back vs fs named
+fields_back (value.Guid g ∷ vs) fs named = fields_back vs fs named
+fields_back (value.Ref None ∷ vs) fs named = fields_back vs fs named
+fields_back (value.Ref (Some r) ∷ vs) [] named = absurd (cc)
+fields_back (value.Ref (Some r) ∷ vs) (f ∷ fs) named =
+    let rest : map reference_in_fields fs ≡ carried vs = cc in
+    ap (λ (l : List StdFields). f ∷ l) (fields_back vs fs rest)
 
 -- ---- the bytes
 

@@ -56,6 +56,24 @@ abbrev pub packets_in : List Wire → List ℕ
 packets_in [] = []
 packets_in (w ∷ ws) = packet_in w ++ packets_in ws
 
+-- The fields of the packets among values that travelled, in their order.
+abbrev pub fields_in_one : Wire → List StdFields
+fields_in_one (wire.Ref (Some f)) = f ∷ []
+fields_in_one _ = []
+
+abbrev pub fields_in : List Wire → List StdFields
+fields_in [] = []
+fields_in (w ∷ ws) = fields_in_one w ++ fields_in ws
+
+-- The fields that were read, and none where there is a fault.
+abbrev pub fields_read : Result (List Wire) ArgFault → List StdFields
+fields_read (Err f) = []
+fields_read (Ok ws) = fields_in ws
+
+-- The fields of the packets that a request carries.
+abbrev pub fields_of_request : List Kind → List ℕ → List StdFields
+fields_of_request kinds bytes = fields_read (args_of kinds (drop 32 bytes))
+
 -- A request, or the first fault from the front.
 abbrev pub with_wires : Guid → Result (List Wire) ArgFault → Result Request RequestError
 with_wires cause (Err f) = Err (error.Arguments f)

@@ -6,6 +6,7 @@
 mod answer;
 pub mod laws;
 mod message;
+mod packets;
 mod preview;
 mod ranges;
 mod receiving;
@@ -16,6 +17,7 @@ mod writing;
 pub use answer::{Answer, Answered};
 pub use com_base::Memory;
 pub use message::Message;
+pub use packets::{ExchangeError, Packets};
 pub use preview::{Outgoing, packet_refs};
 pub use receiving::{Request, RequestError, read_request};
 pub use replies::{Reply, ReplyError, read_reply};

@@ -1,8 +1,12 @@
 //! Reading a request: its causality, its values, and the packets that carry the references.
-ghost use Rattle.std.specs.Prelude.{◌≡◌, ◌++◌, IfOk, OnOk, drop};
+ghost use Rattle.std.specs.Prelude.{◌≡◌, ◌≤◌, ◌++◌, IfOk, OnOk, drop, is_some, length};
+ghost use Rattle.com_base.specs.declared.limits.TheConstants.{PARAMETER_LIMIT};
+ghost use Rattle.com_exchange.specs.Messages.{IsRead, any_lost, lost_parameter, values_read};
 ghost use Rattle.com_exchange.specs.Received.{reference_in_fields, packet_in_fields, values_in, packets_in};
 ghost use Rattle.com_exchange.specs.Received.{value_in, packet_in, request_in, Reads};
+ghost use Rattle.com_exchange.specs.Received.{fields_in, fields_in_one, fields_of_request};
 
+use crate::packets::Packets;
 use com_base::{Guid, Kind, Memory, RefValue, Rows, StdFields, Value};
 use ndr_args::{ArgError, ArgFault, Wire, read_args};
 use orpc::OrpcFault;
@@ -79,7 +83,7 @@ fn value_in(wire: &Wire) -> Result<Value, Memory>
 
 // The values that travelled so, in their order. The only error is want of memory.
 #[tactic(auto, using(crate::proofs::Receivings::values_more, crate::proofs::Receivings::all_values))]
-fn values_in(alloc: Global, wires: &[Wire]) -> Result<Rows<Value>, Memory>
+pub(crate) fn values_in(alloc: Global, wires: &[Wire]) -> Result<Rows<Value>, Memory>
     ensures { IfOk result (λ values. values ≡ values_in wires.now) }
 {
     let mut values = Vec::with_capacity(alloc, wires.len())?;
@@ -110,6 +114,48 @@ fn behind_header(bytes: &[u8]) -> &[u8]
         return &[];
     }
     bytes.split_at(HEADER).1
+}
+
+// The arguments as they travelled, of bytes that are a request. The only error is want of memory.
+#[tactic(auto, using(crate::proofs::Letters::no_fault, crate::proofs::Letters::as_many_read, crate::proofs::Letters::values_are, crate::proofs::Letters::fields_are))]
+pub(crate) fn wires_in(alloc: Global, kinds: &[Kind], bytes: &[u8]) -> Result<Vec<Wire>, Memory>
+    requires { IsRead (request_in kinds.now bytes.now) }
+    ensures values { IfOk result (λ wires. values_in wires.items
+        ≡ values_read (request_in kinds.now bytes.now)) }
+    ensures fields { IfOk result (λ wires. fields_in wires.items ≡ fields_of_request kinds.now bytes.now) }
+    ensures count { IfOk result (λ wires. length wires.items ≡ length kinds.now) }
+{
+    match read_args(alloc, kinds, behind_header(bytes)) {
+        Ok(wires) => Ok(wires),
+        Err(ArgError::Memory) => Err(AllocError),
+        Err(ArgError::Fault(_)) => unreachable!(),
+    }
+}
+
+// Whether a value travelled as a packet that is not outstanding.
+fn is_lost<P: Packets>(wire: &Wire, packets: &P) -> bool
+    ensures { result ≡ any_lost (P.named packets.now) (fields_in_one wire.now) }
+{
+    match wire {
+        Wire::Ref(Some(fields)) => packets.find(fields).is_none(),
+        _ => false,
+    }
+}
+
+// The number of the first value, from 0, that travelled as a packet that is not outstanding.
+#[tactic(auto, using(crate::proofs::Letters::lost_none, crate::proofs::Letters::lost_more, crate::proofs::Letters::lost_here, crate::proofs::Letters::any_here, crate::proofs::Letters::lost_nowhere, crate::proofs::Letters::any_nowhere))]
+pub(crate) fn first_lost<P: Packets>(wires: &[Wire], packets: &P) -> Option<u32>
+    requires { length wires.now ≤ PARAMETER_LIMIT }
+    ensures number { result
+        ≡ lost_parameter (P.named packets.now) (values_in wires.now) (fields_in wires.now) }
+    ensures any { is_some result ≡ any_lost (P.named packets.now) (fields_in wires.now) }
+{
+    for (index, wire) in wires.iter().enumerate() {
+        if is_lost(wire, packets) {
+            return Some(index as u32);
+        }
+    }
+    None
 }
 
 // What a request says whose arguments were read.

@@ -34,7 +34,8 @@ use Rattle.com_laws_messages.specs.Messages.{reply, parameters_of, result_of}
 use Rattle.com_exchange.specs.declared.replies.Reply.{Reply}
 use Rattle.com_exchange.specs.Replies.{reply_in}
 use Rattle.com_laws_messages.specs.Carried.{SendsRequest, Sends, ReadsRequest, ReadsReply, Reads}
-use Rattle.com_laws_messages.specs.Broken.{pairs, pairs_2, swapped, other_fields, of_another_packet, with_old_value}
+use Rattle.com_laws_messages.specs.Broken.{pairs, pairs_2, swapped, other_fields, of_another_packet, without_bytes, with_old_value}
+use Rattle.com_laws_messages.specs.Written.{AreFound}
 use Rattle.com_laws_messages.proofs.Walking.{small-can}
 use Rattle.com_laws_messages.proofs.Fitting.{ipid-fits}
 use Rattle.com_laws_messages.proofs.Literals.{counter-guid}
@@ -127,6 +128,14 @@ packet-bites p =
 
 pub legal-call : legal callback callback_3
 legal-call = whole-callback.0.0.0.0.0.0.0.0.0.0.0.0.0.0.0.0.0.0.0
+
+-- ---- no bytes
+
+nothing-found : (x : Option ℕ) (xs : List (Option ℕ)) → x ∷ xs ≡ [] → ⊥
+nothing-found x xs e = cc
+
+pub bytes-bite : AreFound callback without_bytes 1 → ⊥
+bytes-bite p = nothing-found _ _ (p refl)
 
 -- ---- an old value
 

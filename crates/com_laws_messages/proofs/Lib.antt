@@ -13,5 +13,6 @@ pub mod Calls
 pub mod Reading
 pub mod Results
 pub mod Backs
+pub mod Finding
 pub mod Laws
 pub mod Bites

@@ -38,7 +38,7 @@ bytes-are : (xs ys : List ℕ) → bytes_eq xs ys ≡ true → xs ≡ ys
 bytes-are xs ys e = (bytes_eq-Decides xs ys).0 e
 
 -- Fields that are those of a packet have its number.
-number-in : (s : Scenario) (v : Sight) (f : StdFields) (k : Packet) (p : ℕ) → p < 2 ^ 64 → same_fields f (packet_fields s v k p) ≡ true → from_le_bytes w64 f.ipid.data4 ≡ p
+pub number-in : (s : Scenario) (v : Sight) (f : StdFields) (k : Packet) (p : ℕ) → p < 2 ^ 64 → same_fields f (packet_fields s v k p) ≡ true → from_le_bytes w64 f.ipid.data4 ≡ p
 number-in s v f k p h e =
     let g : StdFields = packet_fields s v k p in
     let same : same_guid f.ipid g.ipid ≡ true = (and_parts (f.oid == g.oid) _ (and_parts (f.oxid == g.oxid) _ (and_parts (f.refs == g.refs) _ (and_parts (same_guid f.iid g.iid) _ e).1).1).1).1 in
@@ -69,13 +69,13 @@ first-back test (x ∷ xs) ys e =
       | false ↦ λ z. first-back test xs ys z
     ] e
 
-none-passes : (test : ℕ → Bool) (n : ℕ) → ((q : ℕ) → q ≤ n → test q ≡ false) → first_that test (one_to n) ≡ None
+pub none-passes : (test : ℕ → Bool) (n : ℕ) → ((q : ℕ) → q ≤ n → test q ≡ false) → first_that test (one_to n) ≡ None
 none-passes test zero f = refl
 none-passes test (suc n) f =
     first-back test (one_to n) (suc n ∷ []) (none-passes test n (λ q h. f q (omega (arith, h))))
     ∙ ap (λ (t : Bool). cond t (Some (suc n)) None) (f (suc n) (omega arith))
 
-not-true : (t : Bool) → (t ≡ true → ⊥) → t ≡ false
+pub not-true : (t : Bool) → (t ≡ true → ⊥) → t ≡ false
 not-true true f = absurd (f refl)
 not-true false f = refl
 
@@ -104,7 +104,7 @@ AllFields s h [] (f ∷ fs) = ⊥
 AllFields s h (p ∷ ps) [] = ⊥
 AllFields s h (p ∷ ps) (f ∷ fs) = FieldsOf s h p f × AllFields s h ps fs
 
-named-one : (s : Scenario) (h : List Entry) (p : ℕ) (f : StdFields) → length (books s h).packets < 2 ^ 64 → FieldsOf s h p f → (packet (books s h) p).outstanding ≡ true → named_packet s (sight s h) f ≡ Some p
+pub named-one : (s : Scenario) (h : List Entry) (p : ℕ) (f : StdFields) → length (books s h).packets < 2 ^ 64 → FieldsOf s h p f → (packet (books s h) p).outstanding ≡ true → named_packet s (sight s h) f ≡ Some p
 named-one s h p f n z o =
     let v : Sight = sight s h in
     let is : f ≡ packet_fields s v (packet (books s h) p) p = z.are o in

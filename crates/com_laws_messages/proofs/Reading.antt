@@ -14,7 +14,8 @@ use Rattle.ndr_args.specs.Written.{CanSendAll, IsInRange, written_args}
 use Rattle.com_model.specs.Values.{wires, result_list, with_answer, reply_bytes}
 use Rattle.com_exchange.proofs.Receivings.{behind}
 use Rattle.com_exchange.proofs.Rereading.{answer-behind, result-again}
-use Rattle.com_laws_messages.specs.Carried.{fields_in, fields_read, fields_before, fields_of_reply}
+use Rattle.com_exchange.specs.Received.{fields_in, fields_read}
+use Rattle.com_laws_messages.specs.Carried.{fields_before, fields_of_reply}
 use Rattle.com_exchange.specs.Replies.{answer_at_end, kinds_before}
 
 pub fields-again : (kind : Option Kind) (hr : HResult) (v : Option Value) (fs : List StdFields) → hr.0 < 2 ^ 32 → CanSendAll (kinds_before kind hr) (wires (result_list v) fs) → AllByRecursion IsInRange (wires (result_list v) fs) → 0x20000 + 4 * length (wires (result_list v) fs) ≤ 2 ^ 32

@@ -49,9 +49,9 @@ use Rattle.com_laws_balance.proofs.Sendings.{entry-grown, end-grown}
 use Rattle.com_laws_ranges.proofs.Holding.{rows-keep}
 use Rattle.com_exchange.specs.declared.receiving.Request.{Request}
 use Rattle.com_exchange.specs.declared.receiving.RequestError.{RequestError}
-use Rattle.com_exchange.specs.Received.{Sendable, reference_in_fields, packet_in_fields}
+use Rattle.com_exchange.specs.Received.{Sendable, fields_in, fields_read, reference_in_fields, packet_in_fields}
 use Rattle.com_exchange.proofs.Receivings.{again, wires_again}
-use Rattle.com_laws_messages.specs.Carried.{fields_in, fields_read, ReadsRequest}
+use Rattle.com_laws_messages.specs.Carried.{ReadsRequest}
 use Rattle.com_laws_messages.specs.Messages.{request, parameters_of}
 use Rattle.com_laws_messages.proofs.Fields.{AreNew, Added, FewHeld, as-many-new, marshals-add, at_number, packet-at, fields_from, fields-are, fields-name, fields-number}
 use Rattle.com_laws_messages.proofs.Outs.{OutGives, sent-own}
@@ -130,7 +130,7 @@ out-marshalled s v l route.Refused k vs e = cc
 out-marshalled s v l route.Switch k vs e = refl
 out-marshalled s v l route.Post k vs e = refl
 
-out-arguments : (s : Scenario) (g : Ground) (w : Scene) (x : Option Action) (left : ℕ → Bool) (a : ℕ) (b : Books) (c : ℕ) (o : Option ℕ) (i m : ℕ) (r : Route) (k : ℕ) (bytes : List ℕ)
+pub out-arguments : (s : Scenario) (g : Ground) (w : Scene) (x : Option Action) (left : ℕ → Bool) (a : ℕ) (b : Books) (c : ℕ) (o : Option ℕ) (i m : ℕ) (r : Route) (k : ℕ) (bytes : List ℕ)
     → (closed s g w (deed.Out c o i m r k (Some bytes)) (most s g w x left a (deed.Out c o i m r k (Some bytes)) b)).arguments c ≡ made_since b (entered_rows g.owns b (marshal_all a (carried (out_values s b true x))))
 out-arguments s g w x left a b c o i m r k bytes =
     let u : Books = entered_rows g.owns b (marshal_all a (carried (out_values s b true x))) in

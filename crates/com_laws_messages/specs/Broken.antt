@@ -83,6 +83,10 @@ of_another_packet =
     }
     ∷ callback_3
 
+-- The reference is sent without bytes.
+abbrev pub without_bytes : List Entry
+without_bytes = record { lane = 1; deed = deed.Out 1 (Some 2) 2 0 route.Post 1 None } ∷ callback_3
+
 -- The call's reply says 4, and its Back keeps the 0 that was there.
 abbrev pub with_old_value : List Entry
 with_old_value =

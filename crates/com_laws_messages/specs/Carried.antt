@@ -1,6 +1,6 @@
 -- What the messages of calls carry: what an Out and a Leave write, and what those who have the bytes alone
 -- read.
-use Rattle.std.specs.Prelude.{◌≡◌, ℕ, ◌^◌, ◌<◌, true, false, List, [], ◌∷◌, ◌++◌, map, drop, Option, Some}
+use Rattle.std.specs.Prelude.{◌≡◌, ℕ, ◌^◌, ◌<◌, true, false, List, [], ◌∷◌, map, drop, Option, Some}
 use Rattle.std.specs.Prelude.{Result, Ok, Err}
 use Rattle.std.specs.List.{AllByRecursion}
 use Rattle.com_base.specs.declared.hresult.HResult.{HResult}
@@ -8,10 +8,7 @@ use Rattle.com_base.specs.declared.standard.StdFields.{StdFields}
 use Rattle.com_base.specs.declared.value.Kind.{Kind}
 use Rattle.com_base.specs.declared.value.Value.{Value}
 use Rattle.com_classes.specs.Lookups.{method_at}
-use Rattle.ndr_args.specs.declared.wire.Wire.{Wire}
-use Rattle.ndr_args.specs.declared.wire.Wire.TheVariants as wire
 use Rattle.ndr_args.specs.declared.wire.ArgFault.{ArgFault}
-use Rattle.ndr_args.specs.Reading.{args_of}
 use Rattle.ndr_args.specs.Written.{CanSendAll, IsInRange}
 use Rattle.com_model.specs.declared.deeds.Deed.{Deed}
 use Rattle.com_model.specs.declared.deeds.Deed.TheVariants as deed
@@ -26,7 +23,8 @@ use Rattle.com_model.specs.Issue.{sent}
 use Rattle.com_model.specs.Sight.{sight}
 use Rattle.com_model.specs.Deeds.{named_packet}
 use Rattle.com_model.specs.Rules.{result_gone}
-use Rattle.com_exchange.specs.Received.{Sendable, reference_in_fields, packet_in_fields, request_in}
+use Rattle.com_exchange.specs.Received.{Sendable, fields_of_request, fields_read, reference_in_fields}
+use Rattle.com_exchange.specs.Received.{packet_in_fields, request_in}
 use Rattle.com_laws_messages.specs.Messages.{request, reply, parameters_of, result_of, as_list}
 use Rattle.com_exchange.specs.Replies.{answer_at_end, kinds_before, result_at, reply_in}
 
@@ -63,23 +61,6 @@ Sends s h l (deed.Leave c hr v (Some bytes)) =
 Sends s h l _ = Unit {0}
 
 -- ---- reading
-
--- The fields of the packets among values that travelled, in their order.
-abbrev pub fields_in_one : Wire → List StdFields
-fields_in_one (wire.Ref (Some f)) = f ∷ []
-fields_in_one _ = []
-
-abbrev pub fields_in : List Wire → List StdFields
-fields_in [] = []
-fields_in (w ∷ ws) = fields_in_one w ++ fields_in ws
-
-abbrev pub fields_read : Result (List Wire) ArgFault → List StdFields
-fields_read (Err f) = []
-fields_read (Ok ws) = fields_in ws
-
--- The fields of the packets that a request carries.
-abbrev pub fields_of_request : List Kind → List ℕ → List StdFields
-fields_of_request kinds bytes = fields_read (args_of kinds (drop 32 bytes))
 
 -- The bytes of a call's Out say its causality, these values, and the numbers of the packets that carry
 -- references, which are the call's. Of the outstanding packets each is the one with the five fields that stand

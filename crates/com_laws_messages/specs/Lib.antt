@@ -1,3 +1,4 @@
 pub mod Messages
 pub mod Carried
 pub mod Broken
+pub mod Written

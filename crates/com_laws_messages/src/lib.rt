@@ -18,7 +18,9 @@ ghost use Rattle.com_model.specs.Safe.{EachEntry};
 ghost use Rattle.com_model.specs.Sight.{sight};
 ghost use Rattle.com_print_scenario.specs.Ranges.{FitsTypes};
 ghost use Rattle.com_laws_messages.specs.Broken.{of_another_packet, pairs, pairs_2, swapped, with_old_value};
+ghost use Rattle.com_laws_messages.specs.Broken.{without_bytes};
 ghost use Rattle.com_laws_messages.specs.Carried.{Reads, ReadsReply, ReadsRequest, Sends};
+ghost use Rattle.com_laws_messages.specs.Written.{AreFound, AreNone};
 
 /// In every legal history, within the limit of entries, of a formed scenario whose numbers fit the types that
 /// hold them: each Out of a switched or posted call has the bytes of a request that can be sent. It carries as
@@ -49,6 +51,15 @@ pub fn packets_are_told_apart()
         → is_named s (sight s h) f p ≡ true → is_named s (sight s h) f q ≡ true → p ≡ q }
 {}
 
+/// In every legal history of a formed scenario, within the limit of entries, the fields that the Out of a switched
+/// or posted call writes name the packets of its arguments, in their order: each is found by its five fields as long
+/// as it is outstanding, and afterwards no packet is found by them. A call that is not marshalled writes no fields.
+pub fn packets_are_found()
+    ensures found { (s : Scenario) (h : List Entry) (c : ℕ) → Formed s → legal s h → length h ≤ limit s
+        → AreFound s h c }
+    ensures none { (s : Scenario) (h : List Entry) (c : ℕ) → legal s h → AreNone s h c }
+{}
+
 /// The bytes say one thing: of no call do they say two lists of values, or two HRESULTs or results. So an
 /// Enter or a Back with anything else than what the bytes say fails the law.
 pub fn nothing_else_is_read()
@@ -60,9 +71,11 @@ pub fn nothing_else_is_read()
 
 /// No law is empty. Each fails of a history that is legal but for its last entry: of an Out whose bytes have
 /// its two arguments in the other order, of one whose bytes have the fields of a packet that was not made for
-/// the reference, and of a Back that keeps the value that was there before the call.
+/// the reference, of one that is posted without bytes, so that no packet is made, and of a Back that keeps the
+/// value that was there before the call.
 pub fn messages_bite()
     ensures swapped { legal pairs pairs_2 × (EachEntry (Sends pairs) swapped → ⊥) }
     ensures packet { legal callback callback_3 × (EachEntry (Sends callback) of_another_packet → ⊥) }
+    ensures bytes { legal callback callback_3 × (AreFound callback without_bytes 1 → ⊥) }
     ensures value { legal callback callback_14 × (EachEntry (Reads callback) with_old_value → ⊥) }
 {}

@@ -2,7 +2,7 @@
 ghost use Rattle.std.specs.Prelude.{◌≡◌, ◌+◌, ◌<◌, ◌^◌, not};
 ghost use Rattle.com_refs_books.specs.Changes.{packet, cookie};
 ghost use Rattle.com_model.specs.Deeds.{cookie_number};
-ghost use Rattle.com_model.specs.Lists.{any_of, first_that};
+ghost use Rattle.com_model.specs.Lists.{first_that};
 ghost use Rattle.com_refs_rows.specs.Books.{books_held};
 ghost use Rattle.com_refs_rows.specs.Calls.{arguments_of};
 ghost use Rattle.com_refs_holders.specs.Tables.{books_of};
@@ -26,19 +26,6 @@ fn is_left(refs: &Refs, number: u32) -> bool
     ensures { result ≡ not (not (packet (books_of refs.now) number).outstanding) }
 {
     !is_gone(refs, number)
-}
-
-// Whether one of a call's packets was given up.
-fn lost_one(refs: &Refs, packets: CallPackets) -> bool
-    requires { packets.first + packets.count < 2 ^ 32 }
-    ensures { result ≡ any_of (λ p. not (packet (books_of refs.now) p).outstanding) (arguments_of packets) }
-{
-    for place in 0..packets.count {
-        if is_gone(refs, packets.first + place) {
-            return true;
-        }
-    }
-    false
 }
 
 // The first of a call's packets that was not given up.
@@ -90,8 +77,13 @@ impl References for Ledger {
         self.books.refs.cookies()
     }
 
-    fn lost_argument(&self, call: u32) -> bool {
-        lost_one(&self.books.refs, self.books.calls.get(call))
+    fn packets(&self) -> u32 {
+        self.books.refs.packets()
+    }
+
+    #[tactic(auto, using(crate::proofs::Reading::packet_same))]
+    fn packet(&self, number: u32) -> Packet {
+        self.books.refs.packet_row(number)
     }
 
     fn left_argument(&self, call: u32) -> Option<u32> {
@@ -108,15 +100,6 @@ impl References for Ledger {
 }
 
 impl Found for Ledger {
-    fn packets(&self) -> u32 {
-        self.books.refs.packets()
-    }
-
-    #[tactic(auto, using(crate::proofs::Reading::packet_same))]
-    fn packet(&self, number: u32) -> Packet {
-        self.books.refs.packet_row(number)
-    }
-
     fn public(&self, apartment: u32, object: u32, iface: u16) -> u64 {
         self.books.refs.public(apartment, object, iface)
     }

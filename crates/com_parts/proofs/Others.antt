@@ -30,7 +30,7 @@ pub known : (t : CallTables) (d : Deed) → IsOther d → IsCalled t d → is_kn
 known t (deed.Out c o i m r k bytes) h e = absurd h
 known t _ h e = e
 
-pub no_more : (l a : ℕ) (d : Deed) (xs : List ℕ) → IsOther d → grown (is_some (issues l d)) a xs ≡ xs
+pub no_more : {X : Type 0} (l : ℕ) (a : X) (d : Deed) (xs : List X) → IsOther d → grown (is_some (issues l d)) a xs ≡ xs
 no_more l a (deed.Out c o i m r k bytes) xs h = absurd h
 no_more l a _ xs h = refl
 

@@ -1,5 +1,6 @@
 -- What an entry of a lane is to the parts.
-use Rattle.std.specs.Prelude.{◌≡◌, ℕ, Bool, [], Option, Some, None, is_none}
+use Rattle.std.specs.Prelude.{◌≡◌, ℕ, Bool, List, [], Option, Some, None, is_none}
+use Rattle.com_base.specs.declared.standard.StdFields.{StdFields}
 use Rattle.com_body.specs.declared.frame.Outcome.{Outcome}
 use Rattle.com_model.specs.Answers.{S_OK}
 use Rattle.com_model.specs.Frames.{Actor as Acting}
@@ -22,6 +23,11 @@ abbrev pub issuing_of : Option Sent → Issuing
 issuing_of None = record { refusal = S_OK; values = [] }
 issuing_of (Some x) = record { refusal = x.refusal; values = x.values }
 
+-- The fields of the packets of the request that an Out sends. An entry that issues no call sends none.
+abbrev pub fields_by : Option Sent → List StdFields
+fields_by None = []
+fields_by (Some x) = x.fields
+
 -- The step of a script goes on to a frame of 8 slots, as each step of `com_turns` does. Of a body's nothing
 -- is asked.
 abbrev pub FitsFrame : Acting → Option Outcome → Type 0
@@ -34,4 +40,5 @@ pub record IsSame (p q : PartTables) : Type 0 where
   pub objects : q.objects ≡ p.objects
   pub calls : q.calls.tables ≡ p.calls.tables
   pub apartments : q.calls.apartments ≡ p.calls.apartments
+  pub fields : q.calls.fields ≡ p.calls.fields
   pub entries : q.entries ≡ p.entries

@@ -1,6 +1,7 @@
 -- What the parts ask of an entry. Each entry that the rules give is so.
 use Rattle.std.specs.Prelude.{◌≡◌, ℕ, ◌+◌, ◌≤◌, ◌<◌, ◌^◌, Bool, true, false, List, Option, Some, None, length, slice_index_or}
 use Rattle.com_base.specs.declared.hresult.HResult.{HResult}
+use Rattle.com_base.specs.declared.standard.StdFields.{StdFields}
 use Rattle.com_base.specs.declared.value.Value.{Value}
 use Rattle.com_body.specs.declared.frame.Outcome.{Outcome}
 use Rattle.com_calls.specs.declared.rows.Enclosed.{Enclosed}
@@ -74,13 +75,16 @@ abbrev pub HasPlace : Deed → (apartment : ℕ) → Kept → Type 0
 HasPlace (deed.Out c o i m r k bytes) a b = (length b.tables.issues < b.room) × (a < b.inboxes)
 HasPlace _ a b = Unit {0}
 
--- What a call has at its Out entry: the refusal, or S_OK, and the values that it sends.
+-- What a call has at its Out entry: the refusal, or S_OK, the values that it sends, and the fields of the packets of
+-- its request.
 pub record Sent : Type 0 where
   pub refusal : HResult
   pub values : List Value
+  pub fields : List StdFields
 
 abbrev pub sent_by : Enclosed → Option Sent
-sent_by (enclosed.Issued x) = Some (record { refusal = x.refusal; values = x.values })
+sent_by (enclosed.Issued x) =
+    Some (record { refusal = x.refusal; values = x.values.values; fields = x.values.fields })
 sent_by _ = None
 
 -- An Out comes with what it issues.

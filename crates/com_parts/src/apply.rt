@@ -1,18 +1,19 @@
 //! What an entry makes of the parts.
-ghost use Rattle.std.specs.Prelude.{◌≡◌, ◌+◌, ◌<◌, ◌^◌, length, OnOk, true};
+ghost use Rattle.std.specs.Prelude.{◌≡◌, ◌+◌, ◌<◌, ◌^◌, is_some, length, OnOk, true};
 ghost use Rattle.com_calls.specs.Enclosures.{HasAnswer};
 ghost use Rattle.com_calls.specs.Kept.{with_room};
 ghost use Rattle.com_lanes.specs.Changes.{NamesStas, HasRoom};
 ghost use Rattle.com_lanes.specs.Rooms.{HasSpace};
 ghost use Rattle.com_model.specs.Calls.{issues, object_of};
 ghost use Rattle.com_model.specs.Objects.{finals};
+ghost use Rattle.com_model.specs.State.{grown};
 ghost use Rattle.com_objects.specs.Kept.{IsMade};
 ghost use Rattle.com_objects.specs.Rooms.{HasRowFor};
 ghost use Rattle.com_scene.specs.Actors.{acting_of};
 ghost use Rattle.com_state.specs.Parts.{Issuing, lanes_after, objects_after, calls_after, named_at};
 ghost use Rattle.com_state.specs.SceneParts.{rows_after};
 ghost use Rattle.com_parts.specs.Begins.{IsBegun};
-ghost use Rattle.com_parts.specs.Changes.{FitsFrame, IsSame, issuing_of, moment_at};
+ghost use Rattle.com_parts.specs.Changes.{FitsFrame, IsSame, fields_by, issuing_of, moment_at};
 ghost use Rattle.com_parts.specs.Fits.{Fits, HasIssued, HasPlace, IsWriting, is_calls_alone, sent_by};
 
 use crate::change::Change;
@@ -134,6 +135,9 @@ impl Parts {
             (moment_at self.old.lanes change.now.entry.lane change.now.has_filter change.now.clock)
             (issuing_of (sent_by enclosed.old)) self.old.calls.tables
             (record { lane = change.now.entry.lane; deed = change.now.entry.deed.now }) }
+        ensures fields { self.new.calls.fields
+            ≡ grown (is_some (issues change.now.entry.lane change.now.entry.deed.now))
+            (fields_by (sent_by enclosed.old)) self.old.calls.fields }
         ensures scene { self.new.scene ≡ rows_after (named_at self.old.objects)
             (acting_of change.now.entry.acting) outcome.old (acting_of change.now.entry.after)
             (record { lane = change.now.entry.lane; deed = change.now.entry.deed.now }) self.old.scene }
@@ -168,6 +172,7 @@ impl Parts {
         ensures calls { (i : Issuing) → self.new.calls.tables ≡ calls_after self.old.objects
             (moment_at self.old.lanes lane has_filter clock) i self.old.calls.tables
             (record { lane = lane; deed = deed.now }) }
+        ensures fields { self.new.calls.fields ≡ self.old.calls.fields }
         ensures scene { self.new.scene ≡ self.old.scene }
         ensures entries { self.new.entries ≡ self.old.entries + 1 }
     {

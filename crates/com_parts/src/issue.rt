@@ -1,6 +1,7 @@
 //! What the calls make of an entry.
 ghost use Rattle.std.specs.Prelude.{◌≡◌, ◌+◌, ◌<◌, ◌^◌, ℕ, Bool, List, Option, is_some, is_none};
 ghost use Rattle.std.specs.Prelude.{OnOk, length};
+ghost use Rattle.com_base.specs.declared.standard.StdFields.{StdFields};
 ghost use Rattle.com_calls.specs.declared.rows.Enclosed.TheVariants as enclosing;
 ghost use Rattle.com_calls.specs.Enclosures.{HasAnswer, IsAnswer, IsIssuing};
 ghost use Rattle.com_calls.specs.Kept.{IsNamed, with_call, with_room, with_tables};
@@ -9,7 +10,7 @@ ghost use Rattle.com_model.specs.Calls.{issues, object_of};
 ghost use Rattle.com_model.specs.Openers.{running_call};
 ghost use Rattle.com_model.specs.State.{grown};
 ghost use Rattle.com_state.specs.Parts.{Issuing, ObjectTables, calls_after, named_at, openers_at};
-ghost use Rattle.com_parts.specs.Changes.{issuing_of, moment_at};
+ghost use Rattle.com_parts.specs.Changes.{fields_by, issuing_of, moment_at};
 ghost use Rattle.com_parts.specs.Fits.{HasIssued, HasPlace, IsCalled, IsOther, is_calls_alone, sent_by};
 
 use crate::change::Change;
@@ -97,6 +98,9 @@ pub(crate) fn change_calls(
     ensures apartments { IsNamed objects.now.tables calls.old → calls.new.apartments
         ≡ grown (is_some (issues change.now.entry.lane change.now.entry.deed.now)) (named_at objects.now.tables
         (object_of (issues change.now.entry.lane change.now.entry.deed.now))) calls.old.apartments }
+    ensures fields { IsNamed objects.now.tables calls.old → calls.new.fields
+        ≡ grown (is_some (issues change.now.entry.lane change.now.entry.deed.now))
+        (fields_by (sent_by enclosed.old)) calls.old.fields }
 {
     let lane = change.entry.lane;
     match change.entry.deed {
@@ -167,6 +171,8 @@ pub(crate) fn change_others(calls: &mut Calls, lane: u32, deed: &Deed, has_filte
         calls.old.tables (record { lane = lane; deed = deed.now })) }
     ensures apartments { (o : ObjectTables) (a : ℕ) → IsNamed o calls.old → calls.new.apartments
         ≡ grown (is_some (issues lane deed.now)) a calls.old.apartments }
+    ensures fields { (o : ObjectTables) (fs : List StdFields) → IsNamed o calls.old → calls.new.fields
+        ≡ grown (is_some (issues lane deed.now)) fs calls.old.fields }
 {
     calls.apply(lane, deed, has_filter, clock);
 }
@@ -185,7 +191,7 @@ fn add(
     requires inbox { apartment < calls.old.inboxes }
     requires has { IsIssuing enclosed.old }
     ensures { (o : ObjectTables) (filtered : Bool) (bytes : Option (List ℕ)) → calls.new
-        ≡ with_call calls.old apartment (calls_after o
+        ≡ with_call calls.old apartment (fields_by (sent_by enclosed.old)) (calls_after o
         (record { is_outermost = is_outermost; filtered = filtered; clock = clock })
         (issuing_of (sent_by enclosed.old)) calls.old.tables (out_entry issue bytes)) }
 {

@@ -59,6 +59,7 @@ impl Parts {
         ensures lanes { IfOk result (λ parts. parts.lanes ≡ first_lanes (all_lanes scenario.now)) }
         ensures objects { IfOk result (λ parts. parts.objects ≡ record { makings = []; finaled = [] }) }
         ensures calls { IfOk result (λ parts. parts.calls.tables ≡ no_tables) }
+        ensures fields { IfOk result (λ parts. parts.calls.fields ≡ []) }
         ensures scene { IfOk result (λ parts. parts.scene ≡ new_scene (threads scenario.now)) }
         ensures entries { IfOk result (λ parts. parts.entries ≡ 0) }
     {

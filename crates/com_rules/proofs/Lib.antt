@@ -1,6 +1,5 @@
 pub mod Packing
 mod Carrying
-pub mod Numbers
 pub mod Quiets
 pub mod Chains
 pub mod Outs

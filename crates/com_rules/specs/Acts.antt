@@ -2,11 +2,13 @@
 -- packet each.
 use Rattle.std.specs.Prelude.{◌≡◌, ℕ, true, List, [], Option, Some, None}
 use Rattle.com_base.specs.declared.value.RefValue.{RefValue}
+use Rattle.com_base.specs.declared.value.Value.{Value}
 use Rattle.com_body.specs.declared.actions.Action.{Action}
 use Rattle.com_refs_books.specs.Changes.{Books}
 use Rattle.com_calls.specs.declared.rows.Enclosed.{Enclosed}
 use Rattle.com_calls.specs.declared.rows.Enclosed.TheVariants as enclosed
 use Rattle.com_calls.specs.declared.rows.Issued.{Issued}
+use Rattle.com_exchange.specs.Messages.{Letter, out_fields}
 use Rattle.com_model.specs.declared.deeds.Deed.{Deed}
 use Rattle.com_model.specs.declared.deeds.Deed.TheVariants as deed
 use Rattle.com_model.specs.declared.scenario.Scenario.{Scenario}
@@ -16,19 +18,23 @@ use Rattle.com_model.specs.declared.deeds.Route.TheVariants as route
 use Rattle.com_model.specs.Books.{out_values}
 use Rattle.com_model.specs.Deeds.{object_in, route_to}
 use Rattle.com_model.specs.Lists.{number_or_zero}
-use Rattle.com_model.specs.Calls.{issues, object_of}
+use Rattle.com_model.specs.Calls.{issues, object_of, route_of}
 use Rattle.com_model.specs.Issue.{action_refusal, or_ok}
 use Rattle.com_model.specs.Sight.{Sight}
 use Rattle.com_model.specs.State.{is_marshalled_by}
 use Rattle.com_model.specs.Values.{carried, result_list}
 use Rattle.com_view.specs.Seen.{Seen, sight_by}
 
--- What the call has that an entry issues: the refusal, or S_OK, the values that it sends, and its target's
--- apartment.
+-- What a call by this route sends: the values, and the fields of the packets of its request.
+abbrev pub sent_on : Scenario → Sight → ℕ → Route → List Value → Letter
+sent_on s v l r vs = record { values = vs; fields = out_fields s v l r vs }
+
+-- What the call has that an entry issues: the refusal, or S_OK, the values that it sends with the fields of its
+-- request's packets, and its target's apartment.
 abbrev pub issued_by : Scenario → Sight → ℕ → Action → Deed → Issued
 issued_by s v l x d = record {
   refusal = or_ok (action_refusal s (v.home l) (v.running l) v.owns v.books.live (Some x));
-  values = out_values s v.books (is_marshalled_by (issues l d)) (Some x);
+  values = sent_on s v l (route_of (issues l d)) (out_values s v.books (is_marshalled_by (issues l d)) (Some x));
   apartment = v.named (object_of (issues l d));
 }
 

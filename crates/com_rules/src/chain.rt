@@ -4,6 +4,7 @@ ghost use Rattle.std.specs.Prelude.{◌≡◌, IfOk};
 ghost use Rattle.com_refs_books.specs.Changes.{Books};
 ghost use Rattle.com_model.specs.Lists.{or_else, where_true};
 ghost use Rattle.com_model.specs.Rules.{after_script, rule_script, ruled};
+ghost use Rattle.com_view.specs.Packed.{IsPacked};
 ghost use Rattle.com_view.specs.Seen.{sight_by};
 
 use com_base::Memory;
@@ -20,6 +21,7 @@ pub fn rule_deed<R: References>(
     lane: u32,
     deed: &mut Deed,
 ) -> Result<bool, Memory>
+    requires packed { IsPacked view.now (R.books refs.now) }
     ensures { IfOk result (λ made. or_else (where_true made deed.new) (rule_script view.now.scenario
         (sight_by view.now (R.books refs.now)) lane)
         ≡ ruled view.now.scenario (sight_by view.now (R.books refs.now)) lane) }

@@ -20,7 +20,7 @@ ghost use Rattle.com_model.specs.Deeds.{deed_of, left_as, out_bytes, reply_for};
 ghost use Rattle.com_model.specs.Issue.{or_ok};
 ghost use Rattle.com_model.specs.Tables.{parameters, result_kind};
 ghost use Rattle.com_model.specs.Values.{carried, result_list, sent_values};
-ghost use Rattle.com_rules.specs.Acts.{Issues, carried_by, route_or, target_number};
+ghost use Rattle.com_rules.specs.Acts.{Issues, carried_by, route_or, sent_on, target_number};
 ghost use Rattle.com_rules.specs.Packets.{AllConnected};
 ghost use Rattle.com_rules.specs.Room.{HasRoom};
 ghost use Rattle.com_view.specs.Seen.{bare, sight_by};
@@ -157,7 +157,7 @@ fn arguments<B: Found>(
 fn nothing_requested(alloc: Global, values: Rows<Value>) -> Requested
     ensures bytes { result.sending.bytes ≡ Option.None }
     ensures carried { result.sending.carried ≡ [] }
-    ensures message { result.message ≡ values }
+    ensures message { result.message ≡ record { values = values; fields = [] } }
 {
     Requested {
         sending: nothing_sent(alloc),
@@ -183,7 +183,8 @@ fn request_with<B: Found>(
         ≡ out_bytes view.now.scenario (sight_by view.now
         (B.books books.now)) lane Route.Post cause values.now) }
     ensures carried { IfOk result (λ made. made.sending.carried ≡ carried values.now) }
-    ensures message { IfOk result (λ made. made.message ≡ values.now) }
+    ensures message { IfOk result (λ made. made.message
+        ≡ sent_on view.now.scenario (sight_by view.now (B.books books.now)) lane Route.Post values.now) }
 {
     let held = references_in(alloc, values)?;
     let fields = fields_made(view, books, alloc, lane, held.as_slice())?;
@@ -218,7 +219,9 @@ fn request_on<B: Found>(
         arguments.entry.values) }
     ensures carried { IfOk result (λ made. made.sending.carried ≡ (if is_marshalled route
         then carried arguments.entry.values else [])) }
-    ensures message { IfOk result (λ made. made.message ≡ arguments.entry.values) }
+    ensures message { IfOk result (λ made. made.message
+        ≡ sent_on view.now.scenario (sight_by view.now (B.books books.now)) lane route
+        arguments.entry.values) }
 {
     let CallArguments { kinds, values } = arguments;
     match route {

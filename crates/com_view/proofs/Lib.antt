@@ -10,3 +10,6 @@ mod Each
 pub mod Timed
 pub mod ByTop
 pub mod ByOpener
+pub mod Numbers
+pub mod Opens
+pub mod Packed

@@ -8,3 +8,4 @@ pub mod Opened
 pub mod Given
 pub mod Times
 pub mod Standings
+pub mod Packed

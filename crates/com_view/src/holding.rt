@@ -4,19 +4,19 @@ ghost use Rattle.std.specs.Prelude.{◌≡◌, not, length, IfOk, option_map};
 ghost use Rattle.com_refs_books.specs.Changes.{Books, cookie, packet};
 ghost use Rattle.com_model.specs.Deeds.{cookie_number};
 ghost use Rattle.com_model.specs.Endings.{is_leave};
-ghost use Rattle.com_model.specs.Lists.{any_of, first_that};
-ghost use Rattle.com_model.specs.Rules.{answered, arguments_gone, due_of, packet_left, result_gone};
+ghost use Rattle.com_model.specs.Lists.{first_that};
+ghost use Rattle.com_model.specs.Rules.{answered, due_of, packet_left, result_gone};
 ghost use Rattle.com_view.specs.Seen.{bare, sight_by};
 ghost use Rattle.com_view.specs.Given.{gone_in};
 
 use crate::view::View;
 use com_base::{HResult, Memory};
 use com_model::Deed;
-use com_refs_books::Cookie;
+use com_refs_books::{Cookie, Packet};
 use std::alloc::Global;
 
 /// Who holds references, as the rules ask for it.
-pub trait References {
+pub trait References: Drop {
     // Who holds them.
     ghost books: { Self → Books };
 
@@ -32,10 +32,13 @@ pub trait References {
     fn cookies(&self) -> u32
         ensures { result ≡ length (books self.now).cookies };
 
-    /// Whether the packet of one of a call's arguments was given up.
-    fn lost_argument(&self, call: u32) -> bool
-        ensures { result ≡ any_of (λ p. not (packet (books self.now) p).outstanding)
-            ((books self.now).arguments call) };
+    /// How many packets were made.
+    fn packets(&self) -> u32
+        ensures { result ≡ length (books self.now).packets };
+
+    /// The row of a packet, by its number from 1; that of an ended one where there is no such packet.
+    fn packet(&self, number: u32) -> Packet
+        ensures { result ≡ packet (books self.now) number };
 
     /// The first packet of a call's arguments that was not given up.
     fn left_argument(&self, call: u32) -> Option<u32>
@@ -53,22 +56,6 @@ impl<'a> View<'a> {
         ensures { result ≡ is_leave ((bare self.now).ending call) }
     {
         self.calls.is_left(call)
-    }
-
-    // Whether the packet of an argument of a call was given up that travels as bytes.
-    pub(crate) fn has_lost_argument<R: References>(&self, refs: &R, call: u32) -> bool
-        ensures { result ≡ arguments_gone (sight_by self.now (R.books refs.now)) call }
-    {
-        match self.calls.issue(call) {
-            Some(issue) => {
-                if issue.route.is_marshalled() {
-                    refs.lost_argument(call)
-                } else {
-                    false
-                }
-            }
-            None => false,
-        }
     }
 
     // Whether the packet of the result was given up that a body left a call with.

@@ -1,13 +1,15 @@
 //! The entry that the rules give a lane, by what is innermost in it: only the rules that can apply are tried, and
 //! the entry is made where it is wanted.
 
-ghost use Rattle.std.specs.Prelude.{◌≡◌, IfOk, Some, true};
+ghost use Rattle.std.specs.Prelude.{◌≡◌, IfOk, IfSome, Some, true};
+ghost use Rattle.com_calls.specs.Kept.{is_open};
 ghost use Rattle.com_model.specs.Lists.{first, or_else, where_true};
 ghost use Rattle.com_model.specs.Rules.{admission, rule_script, ruled, takes_word, top};
 ghost use Rattle.com_model.specs.Tables.{lane_sort};
 ghost use Rattle.com_state.specs.Parts.{served_at};
 ghost use Rattle.com_view.specs.Ruled.{answer_deed, asked_deed, has_served, home_call, idle_call, moved_deed};
 ghost use Rattle.com_view.specs.Ruled.{posted_deed, pump_deed, stirs_to, wait_deed};
+ghost use Rattle.com_view.specs.Packed.{IsPacked};
 ghost use Rattle.com_view.specs.Seen.{bare, home_seen, sight_by};
 
 use crate::holding::References;
@@ -33,8 +35,10 @@ fn put(made: Option<Deed>, deed: &mut Deed) -> bool
 
 impl<'a> View<'a> {
     // The first call in the inbox of a lane's home, where that is an STA.
+    #[tactic(auto, using(crate::proofs::Opens::first_open))]
     fn first_at_home(&self, lane: u32) -> Option<u32>
-        ensures { result ≡ home_call (bare self.now) (home_seen self.now lane) }
+        ensures first { result ≡ home_call (bare self.now) (home_seen self.now lane) }
+        ensures open { IfSome result (λ call. is_open self.now.calls call ≡ true) }
     {
         let home = self.home(lane)?;
         if home < HOST_STA {
@@ -45,8 +49,10 @@ impl<'a> View<'a> {
 
     // The call that a lane lets in with nothing open: the host's from its STA's inbox, one of the pool from that of
     // the MTA.
+    #[tactic(auto, using(crate::proofs::Opens::first_open))]
     fn first_when_idle(&self, lane: u32) -> Option<u32>
-        ensures { result ≡ idle_call (bare self.now) (lane_sort self.now.scenario lane) }
+        ensures first { result ≡ idle_call (bare self.now) (lane_sort self.now.scenario lane) }
+        ensures open { IfSome result (λ call. is_open self.now.calls call ≡ true) }
     {
         match self.sort(lane) {
             Sort::Thread => None,
@@ -66,7 +72,8 @@ impl<'a> View<'a> {
         }
     }
 
-    // Makes the admission of a call in a lane. The only error is want of memory.
+    // Makes the admission in a lane of a call that was neither entered nor answered. The only error is want of
+    // memory.
     #[inline(never)]
     fn admit<R: References>(
         &self,
@@ -76,11 +83,12 @@ impl<'a> View<'a> {
         call: u32,
         deed: &mut Deed,
     ) -> Result<bool, Memory>
+        requires packed { IsPacked self.now (R.books refs.now) }
+        requires open { is_open self.now.calls call ≡ true }
         ensures { IfOk result (λ made. where_true made deed.new
             ≡ Some (admission self.now.scenario (sight_by self.now (R.books refs.now)) lane call)) }
     {
-        let is_gone = self.has_lost_argument(refs, call);
-        *deed = self.admission(alloc, lane, call, is_gone)?;
+        *deed = self.admission(refs, alloc, lane, call)?;
         Ok(true)
     }
 
@@ -154,6 +162,7 @@ impl<'a> View<'a> {
         call: u32,
         deed: &mut Deed,
     ) -> Result<bool, Memory>
+        requires packed { IsPacked self.now (R.books refs.now) }
         ensures { IfOk result (λ made. where_true made deed.new
             ≡ posted_deed self.now.scenario (sight_by self.now (R.books refs.now)) lane call) }
     {
@@ -175,6 +184,7 @@ impl<'a> View<'a> {
         call: u32,
         deed: &mut Deed,
     ) -> Result<bool, Memory>
+        requires packed { IsPacked self.now (R.books refs.now) }
         ensures { IfOk result (λ made. where_true made deed.new
             ≡ wait_deed self.now.scenario (sight_by self.now (R.books refs.now)) lane call) }
     {
@@ -199,6 +209,7 @@ impl<'a> View<'a> {
         bound: u32,
         deed: &mut Deed,
     ) -> Result<bool, Memory>
+        requires packed { IsPacked self.now (R.books refs.now) }
         ensures { IfOk result (λ made. where_true made deed.new
             ≡ pump_deed self.now.scenario (sight_by self.now (R.books refs.now)) lane bound) }
     {
@@ -220,6 +231,7 @@ impl<'a> View<'a> {
         lane: u32,
         deed: &mut Deed,
     ) -> Result<bool, Memory>
+        requires packed { IsPacked self.now (R.books refs.now) }
         ensures { IfOk result (λ made. where_true made deed.new
             ≡ stirs_to self.now.scenario (sight_by self.now (R.books refs.now))
             (lane_sort self.now.scenario lane) lane None) }
@@ -238,6 +250,7 @@ impl<'a> View<'a> {
         lane: u32,
         deed: &mut Deed,
     ) -> Result<bool, Memory>
+        requires packed { IsPacked self.now (R.books refs.now) }
         ensures { IfOk result (λ made. where_true made deed.new
             ≡ stirs_to self.now.scenario (sight_by self.now (R.books refs.now))
             (lane_sort self.now.scenario lane) lane (top (bare self.now) lane)) }
@@ -260,6 +273,7 @@ impl<'a> View<'a> {
         lane: u32,
         deed: &mut Deed,
     ) -> Result<bool, Memory>
+        requires packed { IsPacked self.now (R.books refs.now) }
         ensures { IfOk result (λ made. or_else (where_true made deed.new)
             (rule_script self.now.scenario (sight_by self.now (R.books refs.now)) lane)
             ≡ ruled self.now.scenario (sight_by self.now (R.books refs.now)) lane) }

@@ -38,7 +38,7 @@ from-one-grown o m i x bytes a b p e q zero = refl
 from-one-grown o m i x bytes a b p e q (suc k) = both-grown o b.tables.issues b.apartments x a k e q (λ j. p.named (suc j))
 
 pub returns-clause-calls : goal.returns-clause-calls
-returns-clause-calls c = λ o m i x bytes a b p e q. record { named = from-one-grown o m i x bytes a b p e q }
+returns-clause-calls c = λ o m i x bytes a fs b p e q. record { named = from-one-grown o m i x bytes a b p e q }
 
 pub returns-clause-others : goal.returns-clause-others
 returns-clause-others c = λ o b t p e. record { named = λ k. ap (λ (xs : List (Option Issue)). named_at o (object_of (from_one xs k None))) e ∙ p.named k }

@@ -1,4 +1,5 @@
-use Rattle.std.proofs.Common.{◌≡◌, ℕ, Bool, true, is_some, sym, ap, subst}
+use Rattle.std.proofs.Common.{◌≡◌, ℕ, Bool, true, is_some, List, sym, ap, subst}
+use Rattle.com_base.specs.declared.standard.StdFields.{StdFields}
 use Rattle.com_calls.specs.Enclosures.{HasAnswer}
 use Rattle.com_calls.specs.Kept.{Kept}
 use Rattle.com_exchange.specs.declared.answer.Answered.{Answered}
@@ -7,7 +8,7 @@ use Rattle.com_model.specs.declared.deeds.Deed.TheVariants as deed
 use Rattle.com_model.specs.Calls.{issues, object_of}
 use Rattle.com_model.specs.State.{grown}
 use Rattle.com_state.specs.Parts.{Issuing, Moment, calls_after, named_at}
-use Rattle.com_parts.specs.Changes.{issuing_of, moment_at}
+use Rattle.com_parts.specs.Changes.{fields_by, issuing_of, moment_at}
 use Rattle.com_parts.specs.Fits.{HasIssued, IsCalled, sent_by}
 use Rattle.com_parts.proofs.Others.{answer_given, answer_said, issued_given}
 use Rattle.com_parts.proofs.issue.change_calls.Goals as goal
@@ -66,3 +67,17 @@ returns-in-Leave-clause-apartments c = λ named.
     let o = c.args.objects.now.tables in
     subst (λ (d : Deed). c.leave.new.self.apartments ≡ grown (is_some (issues x.entry.lane d)) (named_at o (object_of (issues x.entry.lane d))) c.args.calls.now.apartments) (sym c.in-Leave.is)
     (ap (λ (b : Kept). b.apartments) (c.leave.ensures o (moment_at c.args.lanes.now.tables x.entry.lane x.has_filter x.clock) (issuing_of (sent_by c.args.enclosed.now)) x.entry.lane c.in-Leave.bytes))
+
+pub returns-in-Out-clause-fields : goal.returns-in-Out-clause-fields
+returns-in-Out-clause-fields c = λ named.
+    let x = c.args.change.now in
+    let fs : List StdFields = fields_by (sent_by c.args.enclosed.now) in
+    subst (λ (d : Deed). c.add.new.calls.fields ≡ grown (is_some (issues x.entry.lane d)) fs c.args.calls.now.fields) (sym c.in-Out.is)
+    (ap (λ (b : Kept). b.fields) (c.add.ensures c.args.objects.now.tables x.has_filter c.in-Out.bytes))
+
+pub returns-in-Leave-clause-fields : goal.returns-in-Leave-clause-fields
+returns-in-Leave-clause-fields c = λ named.
+    let x = c.args.change.now in
+    let fs : List StdFields = fields_by (sent_by c.args.enclosed.now) in
+    subst (λ (d : Deed). c.leave.new.self.fields ≡ grown (is_some (issues x.entry.lane d)) fs c.args.calls.now.fields) (sym c.in-Leave.is)
+    (ap (λ (b : Kept). b.fields) (c.leave.ensures c.args.objects.now.tables (moment_at c.args.lanes.now.tables x.entry.lane x.has_filter x.clock) (issuing_of (sent_by c.args.enclosed.now)) x.entry.lane c.in-Leave.bytes))

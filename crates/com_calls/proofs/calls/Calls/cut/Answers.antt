@@ -4,6 +4,7 @@ use Rattle.std.proofs.lemmas.List.{length-map}
 use Rattle.com_lists.specs.Linked.{without}
 use Rattle.com_model.specs.declared.keeps.Ending.TheVariants.{ByDisconnection}
 use Rattle.com_calls.specs.Rows.{RowView, ending_by, row_at}
+use Rattle.com_calls.specs.Requests.{AreRequested, with_fields}
 use Rattle.com_calls.specs.Leaves.{with_later}
 use Rattle.com_calls.specs.Kept.{Kept, with_tables, IsNamed}
 use Rattle.com_calls.specs.After.{cut_at, effect_of}
@@ -15,6 +16,7 @@ use Rattle.com_calls.proofs.Inboxes.{kept_retired, ended_waits_not}
 use Rattle.com_calls.proofs.Delays.{covered_fewer, ended_fewer}
 use Rattle.com_calls.proofs.Numbered.{numbered_changed}
 use Rattle.com_calls.proofs.Reachables.{listed_clean, listed_fewer, let_go_changed, ended_unreached}
+use Rattle.com_calls.proofs.Requested.{requested_changed, ended_requested}
 use Rattle.com_calls.proofs.calls.Calls.cut.Goals as goal
 
 pub invariant_of-self : goal.invariant_of-self
@@ -45,6 +47,10 @@ invariant_of-self c =
       rw rows
           (cuts_keep (λ (x : Cutting). AreLetGo x.rows) c.args.cut (λ x k p. let_go_changed (ending_by ByDisconnection) k x.rows (λ r h e. refl) p)
           listed (cutting s.rows.items s.waiting) c.self.invariant.6),
+      rw rows
+          (cuts_keep (λ (x : Cutting). AreRequested x.rows s.packed.fields) c.args.cut
+          (λ x k p. requested_changed (ending_by ByDisconnection) k x.rows s.packed.fields (ended_requested ByDisconnection) p)
+          listed (cutting s.rows.items s.waiting) c.self.invariant.7),
     )
 
 pub returns : goal.returns
@@ -56,9 +62,9 @@ returns c = λ o q.
     let covers = (listed_clean s.rows.items s.reachable.items (vec_capacity s.reachable) s.room c.self.invariant.5).covers in
     let many : length after.waiting.queues ≡ length s.waiting.queues =
     cuts_keep (λ (x : Cutting). length x.waiting.queues ≡ length s.waiting.queues) c.args.cut (λ x k p. length-map x.waiting.queues (without k) ∙ p) listed (cutting s.rows.items s.waiting) refl in
-    let named : IsNamed o (with_later (kept_of s.rows.items s.posted.calls s.waiting s.room s.causes) s.later.items) = subst (λ (b : Kept). IsNamed o b) (sym c.self.view_is) q in
+    let named : IsNamed o (with_fields (with_later (kept_of s.rows.items s.posted.calls s.waiting s.room s.causes) s.later.items) s.packed.fields) = subst (λ (b : Kept). IsNamed o b) (sym c.self.view_is) q in
     let names : IsNamed o (kept_of s.rows.items s.posted.calls s.waiting s.room s.causes) = record { named = named.named } in
-    ap (λ (b : Kept). with_later b s.later.items) (ap (λ (x : Cutting). kept_of x.rows s.posted.calls x.waiting s.room s.causes) is
+    ap (λ (b : Kept). with_fields (with_later b s.later.items) s.packed.fields) (ap (λ (x : Cutting). kept_of x.rows s.posted.calls x.waiting s.room s.causes) is
     ∙ ap (λ (xs : List RowView). kept_of xs s.posted.calls after.waiting s.room s.causes) (all_cut c.args.cut (cutting s.rows.items s.waiting) listed covers c.self.invariant.6)
     ∙ seen_cut o c.args.cut s.rows.items s.posted.calls s.waiting after.waiting s.room s.causes names many)
     ∙ ap (λ (b : Kept). with_tables b (cut_at o b.tables (effect_of c.args.cut))) c.self.view_is

@@ -3,6 +3,7 @@ use Rattle.std.proofs.lemmas.Grind.{common_steps}
 use Rattle.com_inbox.specs.Queues.{Queues}
 use Rattle.com_model.specs.declared.keeps.Phase.TheVariants.{Delayed}
 use Rattle.com_calls.specs.Rows.{RowView, changed_row, phased}
+use Rattle.com_calls.specs.Requests.{with_fields}
 use Rattle.com_calls.specs.Leaves.{with_later}
 use Rattle.com_calls.specs.Kept.{Kept, with_tables}
 use Rattle.com_calls.specs.Inside.{kept_of, stays}
@@ -12,12 +13,13 @@ use Rattle.com_calls.proofs.Inboxes.{issues-length, kept_retired, seen_retired, 
 use Rattle.com_calls.proofs.Delays.{covered_delayed, delayed_fits}
 use Rattle.com_calls.proofs.Numbered.{numbered_changed}
 use Rattle.com_calls.proofs.Reachables.{listed_fewer, let_go_changed}
+use Rattle.com_calls.proofs.Requested.{requested_changed}
 use Rattle.com_calls.proofs.calls.Calls.delay.Goals as goal
 
 pub invariant_of-self : goal.invariant_of-self
 invariant_of-self c =
     let s = c.self.inside in
-    let n : length c.args.self.now.tables.issues ≡ length s.rows.items = issues-length s.rows.items s.posted.calls s.waiting s.room s.causes s.later.items c.args.self.now c.self.view_is in
+    let n : length c.args.self.now.tables.issues ≡ length s.rows.items = issues-length s.rows.items s.posted.calls s.waiting s.room s.causes s.later.items s.packed.fields c.args.self.now c.self.view_is in
     let high : c.args.call ≤ length s.rows.items = omega (arith, n, c.requires) in
     let is : take s.rows.len (c.phase.new.rows ++ drop (length c.phase.new.rows) s.rows.items) ≡ changed_row (phased (Delayed c.args.until)) c.args.call s.rows.items = grind (arith, common_steps) in (
       rw (is, c.remove.ensures.queues) (kept_retired (phased (Delayed c.args.until)) c.args.call s.rows.items s.posted.calls s.waiting s.rows.cap s.room s.causes c.self.invariant.0 (λ r. refl) (phased_waits_not (Delayed c.args.until) refl)),
@@ -27,13 +29,14 @@ invariant_of-self c =
       c.self.invariant.4,
       rw is (listed_fewer (phased (Delayed c.args.until)) c.args.call s.rows.items s.reachable.items (vec_capacity s.reachable) s.room (λ r h. h) c.self.invariant.5),
       rw is (let_go_changed (phased (Delayed c.args.until)) c.args.call s.rows.items (λ r h. h) c.self.invariant.6),
+      rw is (requested_changed (phased (Delayed c.args.until)) c.args.call s.rows.items s.packed.fields (λ r fs h. h) c.self.invariant.7),
     )
 
 pub returns : goal.returns
 returns c =
     let s = c.self.inside in
     let is : take s.rows.len (c.phase.new.rows ++ drop (length c.phase.new.rows) s.rows.items) ≡ changed_row (phased (Delayed c.args.until)) c.args.call s.rows.items = grind (arith, common_steps) in
-    ap (λ (b : Kept). with_later b s.later.items) (ap (λ (xs : List RowView). kept_of xs s.posted.calls c.remove.new.self s.room s.causes) is
+    ap (λ (b : Kept). with_fields (with_later b s.later.items) s.packed.fields) (ap (λ (xs : List RowView). kept_of xs s.posted.calls c.remove.new.self s.room s.causes) is
     ∙ ap (λ (q : Queues). kept_of (changed_row (phased (Delayed c.args.until)) c.args.call s.rows.items) s.posted.calls q s.room s.causes) c.remove.ensures.queues
     ∙ seen_retired (phased (Delayed c.args.until)) c.args.call s.rows.items s.posted.calls s.waiting s.room s.causes _ (tables_phased (Delayed c.args.until) c.args.call s.rows.items s.posted.calls s.causes) (λ r. refl))
     ∙ ap (λ (b : Kept). with_tables b (phased_at b.tables c.args.call (Delayed c.args.until))) c.self.view_is
@@ -41,7 +44,7 @@ returns c =
 pub push_reserved-requires : goal.push_reserved-requires
 push_reserved-requires c =
     let s = c.self.inside in
-    let n : length c.args.self.now.tables.issues ≡ length s.rows.items = issues-length s.rows.items s.posted.calls s.waiting s.room s.causes s.later.items c.args.self.now c.self.view_is in
+    let n : length c.args.self.now.tables.issues ≡ length s.rows.items = issues-length s.rows.items s.posted.calls s.waiting s.room s.causes s.later.items s.packed.fields c.args.self.now c.self.view_is in
     let high : c.args.call ≤ length s.rows.items = omega (arith, n, c.requires) in
     let fits : length (filter (stays s.rows.items c.args.call) s.delayed.items) < vec_capacity s.delayed = delayed_fits c.args.call s.rows.items s.delayed.items (vec_capacity s.delayed) s.room high c.self.invariant.0.within c.self.invariant.1 in
     let is : c.clean.new.delayed.items ≡ filter (stays s.rows.items c.args.call) s.delayed.items = rw (← c.deref.ensures.value) c.clean.ensures.items in

@@ -2,6 +2,7 @@ use Rattle.std.proofs.Common.{vec_capacity, ◌≡◌, ◌++◌, ◌∙◌, refl
 use Rattle.std.proofs.lemmas.Grind.{common_steps}
 use Rattle.com_inbox.specs.Queues.{Queues}
 use Rattle.com_calls.specs.Rows.{RowView, changed_row, ending_by}
+use Rattle.com_calls.specs.Requests.{with_fields}
 use Rattle.com_calls.specs.Leaves.{with_later}
 use Rattle.com_calls.specs.Kept.{Kept, with_tables}
 use Rattle.com_calls.specs.Inside.{kept_of}
@@ -11,6 +12,7 @@ use Rattle.com_calls.proofs.Inboxes.{kept_retired, seen_retired, ended_waits_not
 use Rattle.com_calls.proofs.Delays.{covered_fewer, ended_fewer}
 use Rattle.com_calls.proofs.Numbered.{numbered_changed}
 use Rattle.com_calls.proofs.Reachables.{listed_fewer, let_go_changed, ended_unreached}
+use Rattle.com_calls.proofs.Requested.{requested_changed, ended_requested}
 use Rattle.com_calls.proofs.calls.Calls.end.Goals as goal
 
 pub invariant_of-self : goal.invariant_of-self
@@ -24,13 +26,14 @@ invariant_of-self c =
       c.self.invariant.4,
       rw is (listed_fewer (ending_by c.args.ending) c.args.call s.rows.items s.reachable.items (vec_capacity s.reachable) s.room (ended_unreached c.args.ending) c.self.invariant.5),
       rw is (let_go_changed (ending_by c.args.ending) c.args.call s.rows.items (λ r h e. refl) c.self.invariant.6),
+      rw is (requested_changed (ending_by c.args.ending) c.args.call s.rows.items s.packed.fields (ended_requested c.args.ending) c.self.invariant.7),
     )
 
 pub returns : goal.returns
 returns c =
     let s = c.self.inside in
     let is : take s.rows.len (c.end.new.rows ++ drop (length c.end.new.rows) s.rows.items) ≡ changed_row (ending_by c.args.ending) c.args.call s.rows.items = grind (arith, common_steps) in
-    ap (λ (b : Kept). with_later b s.later.items) (ap (λ (xs : List RowView). kept_of xs s.posted.calls c.remove.new.self s.room s.causes) is
+    ap (λ (b : Kept). with_fields (with_later b s.later.items) s.packed.fields) (ap (λ (xs : List RowView). kept_of xs s.posted.calls c.remove.new.self s.room s.causes) is
     ∙ ap (λ (q : Queues). kept_of (changed_row (ending_by c.args.ending) c.args.call s.rows.items) s.posted.calls q s.room s.causes) c.remove.ensures.queues
     ∙ seen_retired (ending_by c.args.ending) c.args.call s.rows.items s.posted.calls s.waiting s.room s.causes _ (tables_ended c.args.ending c.args.call s.rows.items s.posted.calls s.causes) (λ r. refl))
     ∙ ap (λ (b : Kept). with_tables b (ended_at b.tables c.args.call c.args.ending)) c.self.view_is

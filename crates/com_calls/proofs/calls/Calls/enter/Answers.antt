@@ -2,6 +2,7 @@ use Rattle.std.proofs.Common.{vec_capacity, ◌≡◌, ◌++◌, ◌∙◌, refl
 use Rattle.std.proofs.lemmas.Grind.{common_steps}
 use Rattle.com_inbox.specs.Queues.{Queues}
 use Rattle.com_calls.specs.Rows.{RowView, changed_row, admitting}
+use Rattle.com_calls.specs.Requests.{with_fields}
 use Rattle.com_calls.specs.Leaves.{with_later}
 use Rattle.com_calls.specs.Kept.{Kept, with_tables}
 use Rattle.com_calls.specs.Inside.{kept_of}
@@ -11,6 +12,7 @@ use Rattle.com_calls.proofs.Inboxes.{kept_retired, seen_retired, entered_waits_n
 use Rattle.com_calls.proofs.Delays.{covered_fewer}
 use Rattle.com_calls.proofs.Numbered.{numbered_changed}
 use Rattle.com_calls.proofs.Reachables.{listed_fewer, let_go_changed, entered_unreached}
+use Rattle.com_calls.proofs.Requested.{requested_changed}
 use Rattle.com_calls.proofs.calls.Calls.enter.Goals as goal
 
 pub invariant_of-self : goal.invariant_of-self
@@ -24,13 +26,14 @@ invariant_of-self c =
       c.self.invariant.4,
       rw is (listed_fewer (admitting c.args.admission) c.args.admission.call s.rows.items s.reachable.items (vec_capacity s.reachable) s.room (entered_unreached c.args.admission) c.self.invariant.5),
       rw is (let_go_changed (admitting c.args.admission) c.args.admission.call s.rows.items (λ r h e. refl) c.self.invariant.6),
+      rw is (requested_changed (admitting c.args.admission) c.args.admission.call s.rows.items s.packed.fields (λ r fs h. refl) c.self.invariant.7),
     )
 
 pub returns : goal.returns
 returns c =
     let s = c.self.inside in
     let is : take s.rows.len (c.admit.new.rows ++ drop (length c.admit.new.rows) s.rows.items) ≡ changed_row (admitting c.args.admission) c.args.admission.call s.rows.items = grind (arith, common_steps) in
-    ap (λ (b : Kept). with_later b s.later.items) (ap (λ (xs : List RowView). kept_of xs s.posted.calls c.remove.new.self s.room s.causes) is
+    ap (λ (b : Kept). with_fields (with_later b s.later.items) s.packed.fields) (ap (λ (xs : List RowView). kept_of xs s.posted.calls c.remove.new.self s.room s.causes) is
     ∙ ap (λ (q : Queues). kept_of (changed_row (admitting c.args.admission) c.args.admission.call s.rows.items) s.posted.calls q s.room s.causes) c.remove.ensures.queues
     ∙ seen_retired (admitting c.args.admission) c.args.admission.call s.rows.items s.posted.calls s.waiting s.room s.causes _ (tables_entered c.args.admission s.rows.items s.posted.calls s.causes) (λ r. refl))
     ∙ ap (λ (b : Kept). with_tables b (entered_at b.tables c.args.admission)) c.self.view_is

@@ -14,4 +14,5 @@ invariant_of-result c = (
   grind (arith, common_steps),
   rw (c.new-2.ensures.items, c.new-3.ensures.items) (listed_none (vec_capacity c.new-3.result)),
   rw c.new-2.ensures.items tt,
+  rw (c.new-2.ensures.items, c.none-2.ensures) tt,
 )

@@ -20,4 +20,5 @@ invariant_of-self-2 c =
       omega (arith, c.self.invariant.4, c.reserve.ensures.len, c.reserve-4.ensures.len),
       rw (c.reserve.ensures.items, c.reserve-3.ensures.items) (listed_roomier s.rows.items s.reachable.items (vec_capacity s.reachable) s.room (vec_capacity c.reserve-3.new.self) c.room_for-room.result (grind (arith, common_steps)) c.self.invariant.5),
       rw c.reserve.ensures.items c.self.invariant.6,
+      rw c.reserve.ensures.items c.self.invariant.7,
     )

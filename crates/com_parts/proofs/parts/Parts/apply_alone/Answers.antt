@@ -1,4 +1,4 @@
-use Rattle.std.proofs.Common.{◌≡◌, ◌+◌, ◌<◌, ◌^◌, [], is_none, length, refl, sym, ap, subst}
+use Rattle.std.proofs.Common.{◌≡◌, ◌+◌, ◌<◌, ◌^◌, ◌∙◌, [], is_none, length, refl, sym, ap, subst}
 use Rattle.com_calls.specs.Kept.{Kept}
 use Rattle.com_model.specs.Answers.{S_OK}
 use Rattle.com_model.specs.Calls.{issues, object_of}
@@ -7,7 +7,7 @@ use Rattle.com_state.specs.Parts.{CallTables, calls_after, named_at, openers_at}
 use Rattle.com_parts.specs.Changes.{moment_at}
 use Rattle.com_parts.specs.Fits.{Fits}
 use Rattle.com_parts.specs.Tables.{PartTables}
-use Rattle.com_parts.proofs.Others.{alone_other, lanes_same, objects_same}
+use Rattle.com_parts.proofs.Others.{alone_other, lanes_same, no_more, objects_same}
 use Rattle.com_parts.proofs.Wholes.{whole_after, with_rest}
 use Rattle.com_parts.proofs.parts.Parts.apply_alone.Goals as goal
 
@@ -24,6 +24,13 @@ returns-clause-calls c = λ i.
     let t : CallTables = c.change_others.new.calls.tables in
     subst (λ (p : PartTables). t ≡ calls_after p.objects (moment_at p.lanes c.args.lane c.args.has_filter c.args.clock) i p.calls.tables (record { lane = c.args.lane; deed = c.args.deed.now })) c.self.view_is
     (ap (λ (b : Kept). b.tables) (c.change_others.ensures.calls v.objects.tables i (is_none (running_call (openers_at v.lanes.tables c.args.lane))) c.self.invariant.named))
+
+pub returns-clause-fields : goal.returns-clause-fields
+returns-clause-fields c =
+    let v = c.self.inside in
+    c.change_others.ensures.fields v.objects.tables [] c.self.invariant.named
+    ∙ no_more c.args.lane [] c.args.deed.now v.calls.fields (alone_other c.args.deed.now c.requires.alone)
+    ∙ ap (λ (p : PartTables). p.calls.fields) c.self.view_is
 
 pub invariant_of-self : goal.invariant_of-self
 invariant_of-self c =

@@ -1,10 +1,12 @@
-use Rattle.std.proofs.Common.{◌≡◌, ◌+◌, refl, sym, ap, subst}
+use Rattle.std.proofs.Common.{◌≡◌, ◌+◌, ◌∙◌, List, is_some, refl, sym, ap, subst}
+use Rattle.com_base.specs.declared.standard.StdFields.{StdFields}
 use Rattle.com_model.specs.declared.deeds.Entry.{Entry}
 use Rattle.com_model.specs.Calls.{issues, object_of}
+use Rattle.com_model.specs.State.{grown}
 use Rattle.com_scene.specs.Actors.{acting_of}
 use Rattle.com_state.specs.Parts.{CallTables, calls_after, named_at}
 use Rattle.com_parts.specs.Begins.{IsBegun}
-use Rattle.com_parts.specs.Changes.{issuing_of, moment_at}
+use Rattle.com_parts.specs.Changes.{fields_by, issuing_of, moment_at}
 use Rattle.com_parts.specs.Fits.{sent_by}
 use Rattle.com_parts.specs.Tables.{PartTables}
 use Rattle.com_parts.proofs.Wholes.{whole_after, with_rest}
@@ -18,6 +20,13 @@ returns-clause-calls c =
     let t : CallTables = c.change_calls.new.calls.tables in
     subst (λ (p : PartTables). t ≡ calls_after p.objects (moment_at p.lanes x.entry.lane x.has_filter x.clock) (issuing_of (sent_by c.args.enclosed.now)) p.calls.tables e) c.self.view_is
     (c.change_calls.ensures.tables c.self.invariant.named)
+
+pub returns-clause-fields : goal.returns-clause-fields
+returns-clause-fields c =
+    let x = c.args.change.now in
+    let fs : List StdFields = fields_by (sent_by c.args.enclosed.now) in
+    c.change_calls.ensures.fields c.self.invariant.named
+    ∙ ap (λ (p : PartTables). grown (is_some (issues x.entry.lane x.entry.deed.now)) fs p.calls.fields) c.self.view_is
 
 pub invariant_of-self : goal.invariant_of-self
 invariant_of-self c =

@@ -4,12 +4,12 @@ use Rattle.com_refs_books.specs.declared.keeps.Packet.{Packet}
 use Rattle.com_model.specs.Deeds.{packet_fields, same_fields}
 use Rattle.com_state.specs.Parts.{named_at}
 use Rattle.com_view.specs.Seen.{Seen, sight_by}
-use Rattle.com_rules.proofs.naming.is_named.Goals as goal
+use Rattle.com_view.proofs.outstanding.is_named.Goals as goal
 
 pub returns : goal.returns
 returns g c =
     let w = c.args.view.now in
-    let v = sight_by w (g.B.References.books c.args.books.now) in
+    let v = sight_by w (g.R.References.books c.args.refs.now) in
     let k = c.packet-kept.result in
     let f = c.args.fields.now in
     let owner : c.owner-owner.result ≡ named_at w.objects k.object = c.owner-owner.ensures ∙ ap (λ (x : Seen). named_at x.objects k.object) c.view.view_is in
