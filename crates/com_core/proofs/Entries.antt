@@ -49,6 +49,7 @@ use Rattle.com_core.specs.Changes.{Becomes, Settles, fresh_by}
 use Rattle.com_ledger.specs.Falling.{placed_in, other_object, Touches, CountsHolders}
 use Rattle.com_core.proofs.Fallen.{fallen_found, dies_as}
 use Rattle.com_core.proofs.OpenBodies.{bodies_counted}
+use Rattle.com_core.proofs.Requests.{fields_later}
 
 -- ---- the state that the parts are
 
@@ -67,15 +68,9 @@ read_is s st p b fallen clock h r =
 pub written_books : (s : Scenario) (st : State) → IsReached s st → book_tables s st (books_in st) ≡ st.books
 written_books s st r = r.stands.rows.1
 
-pub reached_first : (s : Scenario) → Formed s → StandsFor s (first_tables s) [] → IsReached s (first_tables s)
-reached_first s f p = record { history = []; formed = f; stands = p }
-
-pub reached_later : (s : Scenario) (st : State) (l : ℕ) (d : Deed) → IsReached s st → next_of s st l ≡ Some d → IsReached s (after s st l d)
-reached_later s st l d r e = record {
-  history = record { lane = l; deed = d } ∷ r.history;
-  formed = r.formed;
-  stands = stands-later s st r.history l d r.formed (r.stands.lawful, sym (same-next s st r.history l r.stands) ∙ e) r.stands;
-}
+-- The state after a lane's next entry stands for the longer history.
+stands_after : (s : Scenario) (st : State) (l : ℕ) (d : Deed) (r : IsReached s st) → next_of s st l ≡ Some d → StandsFor s (after s st l d) (record { lane = l; deed = d } ∷ r.history)
+stands_after s st l d r e = stands-later s st r.history l d r.formed (r.stands.lawful, sym (same-next s st r.history l r.stands) ∙ e) r.stands
 
 -- ---- what the rules look at
 
@@ -141,7 +136,7 @@ sent-calls : (s : Scenario) (st : State) (e : Entry) (x : Option Sent) (o : Obje
     → calls_after o m (issuing_of x) t e ≡ calls_after o m (issuing_in s st e) t e
 sent-calls s st e None o m t p =
     (λ i. calls_by (p i) o m (issuing_of None) t e) ∙ sym (λ i. calls_by (p i) o m (issuing_in s st e) t e)
-sent-calls s st e (Some x) o m t p = ap (λ (i : Issuing). calls_after o m i t e) (sym p)
+sent-calls s st e (Some x) o m t p = ap (λ (i : Issuing). calls_after o m i t e) (sym p.0)
 
 calls-later : (s : Scenario) (st : State) (p q : PartTables) (b : Books) (fallen : List ℕ) (clock : ℕ) (l : ℕ) (d : Deed) (acting : Actor) (r : Option Outcome) (follows : Actor) (filtered : Bool) (x : Option Sent)
     → Stands st p b fallen clock → IsGiven s st (record { lane = l; deed = d }) acting r follows filtered x → Becomes p q (record { lane = l; deed = d }) acting r follows filtered x clock
@@ -247,9 +242,10 @@ bodies_first s = record {
 pub core_first : (s : Scenario) (p : PartTables) (b : Books) (entered fallen : List ℕ) (clock : ℕ) → Formed s → StandsFor s (first_tables s) [] → BeginsParts s p fallen → clock ≡ 0
     → entered ≡ 0 ∷ [] → b ≡ books_in (first_tables s) → IsCore s (first_tables s) p b entered fallen clock
 core_first s p b entered fallen clock f w h c n e = record {
-  reached = reached_first s f w;
+  reached = record { history = []; formed = f; stands = w };
   stands = stands_first s p b fallen clock h c e;
   bodies = subst (λ (xs : List ℕ). CountsBodies s (first_tables s) xs) (sym n) (bodies_first s);
+  fields = h.fields;
 }
 
 -- After a lane's next entry the parts are those of the state after it, if the books are.
@@ -265,9 +261,10 @@ core_later s st p q b x u entered more fallen later clock l d k m w =
     let dying : later ≡ (after s st l d).fallen =
     fallen_later s st l d q.objects (holders_of u.tables) more fallen u.touched later m.acting k.reached m.next k.stands.fallen_is m.given.acts objects w.holders_are bodies w.touches m.settles in
     record {
-      reached = reached_later s st l d k.reached m.next;
+      reached = record { history = v ∷ k.reached.history; formed = k.reached.formed; stands = stands_after s st l d k.reached m.next };
       stands = stands_later s st p q b (books_held u) fallen later clock l d m.acting m.step m.follows m.filtered m.sent k.reached.stands.rows.0 k.stands m.given m.becomes w.books dying;
       bodies = bodies;
+      fields = fields_later s st k.reached.history l d m.sent p.calls.fields q.calls.fields k.reached.stands m.given.sent m.becomes.fields k.fields;
     }
 
 -- The state that is read from the parts of a core is the state.

@@ -9,7 +9,9 @@ pub mod Booked
 pub mod Acting
 pub mod Travelling
 pub mod Roomy
+pub mod Requests
 pub mod Entries
+pub mod Packed
 pub mod Readings
 pub mod Moved
 pub mod Ticking

@@ -6,11 +6,12 @@ use Rattle.com_body.specs.declared.frame.Outcome.{Outcome}
 use Rattle.com_ledger.specs.Bodies.{entered_after}
 use Rattle.com_model.specs.declared.deeds.Entry.{Entry}
 use Rattle.com_model.specs.declared.scenario.Scenario.{Scenario}
-use Rattle.com_model.specs.Calls.{lane_of}
+use Rattle.com_model.specs.Calls.{issues, lane_of}
 use Rattle.com_model.specs.Frames.{Actor}
-use Rattle.com_parts.proofs.Others.{lanes_same, objects_same, rows_same}
+use Rattle.com_model.specs.State.{grown}
+use Rattle.com_parts.proofs.Others.{alone_other, lanes_same, no_more, objects_same, rows_same}
 use Rattle.com_parts.specs.Fits.{Sent, is_calls_alone}
-use Rattle.com_parts.specs.Changes.{issuing_of, moment_at}
+use Rattle.com_parts.specs.Changes.{fields_by, issuing_of, moment_at}
 use Rattle.com_parts.specs.Tables.{PartTables}
 use Rattle.com_refs.specs.Counts.{holders_of}
 use Rattle.com_state.specs.After.{filtered_by}
@@ -31,6 +32,7 @@ becomes_finished p q t e acting r follows filtered x clock same b = record {
   lanes = b.lanes ∙ (λ i. lanes_after (same i).lanes e);
   objects = b.objects ∙ (λ i. objects_after (same i).objects e);
   calls = b.calls ∙ (λ i. calls_after (same i).objects (moment_at (same i).lanes e.lane filtered clock) (issuing_of x) (same i).calls.tables e);
+  fields = b.fields ∙ (λ i. grown (is_some (issues e.lane e.deed)) (fields_by x) (same i).calls.fields);
   scene = b.scene ∙ (λ i. rows_after (named_at (same i).objects) acting r follows e (same i).scene);
   entries = b.entries ∙ (λ i. (same i).entries + 1);
 }
@@ -39,12 +41,13 @@ becomes_finished p q t e acting r follows filtered x clock same b = record {
 pub becomes_alone : (p q : PartTables) (e : Entry) (filtered : Bool) (clock : ℕ) → is_calls_alone e.deed ≡ true
     → q.lanes ≡ p.lanes → q.objects ≡ p.objects
     → ((i : Issuing) → q.calls.tables ≡ calls_after p.objects (moment_at p.lanes e.lane filtered clock) i p.calls.tables e)
-    → q.scene ≡ p.scene → q.entries ≡ p.entries + 1
+    → q.calls.fields ≡ p.calls.fields → q.scene ≡ p.scene → q.entries ≡ p.entries + 1
     → (acting follows : Actor) (x : Option Sent) → Becomes p q e acting None follows filtered x clock
-becomes_alone p q e filtered clock alone lanes objects calls scene entries acting follows x = record {
+becomes_alone p q e filtered clock alone lanes objects calls fields scene entries acting follows x = record {
   lanes = lanes ∙ sym (lanes_same p.lanes e.lane e.deed alone);
   objects = objects ∙ sym (objects_same p.objects e.lane e.deed alone);
   calls = calls (issuing_of x);
+  fields = fields ∙ sym (no_more e.lane (fields_by x) e.deed p.calls.fields (alone_other e.deed alone));
   scene = scene ∙ sym (rows_same (named_at p.objects) acting follows e.lane e.deed p.scene alone);
   entries = entries;
 }

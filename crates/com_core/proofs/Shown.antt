@@ -90,6 +90,7 @@ becomes-shown p q e acting r follows filtered x clock b = record {
   lanes = b.lanes;
   objects = b.objects;
   calls = b.calls;
+  fields = b.fields;
   scene = b.scene;
   entries = b.entries;
 }
@@ -99,6 +100,7 @@ begins_shown s p fallen b = record {
   lanes = b.lanes;
   objects = b.objects;
   calls = b.calls;
+  fields = b.fields;
   scene = b.scene;
   entries = b.entries;
   none = b.none;
@@ -109,7 +111,7 @@ parts_alike p q same scene =
     λ i. record {
       lanes = same.lanes i;
       objects = same.objects i;
-      calls = record { tables = same.calls i; apartments = same.apartments i; room = 0; inboxes = 0 };
+      calls = record { tables = same.calls i; apartments = same.apartments i; fields = same.fields i; room = 0; inboxes = 0 };
       scene = scene i;
       entries = same.entries i;
       rooms = no_rooms;
@@ -132,6 +134,7 @@ whole_kept v k = record {
     clock_is = k.stands.clock_is;
   };
   bodies = k.bodies;
+  fields = k.fields;
 }
 
 pub steps_shown : (lane : ℕ) (v w : CoreView) (e : Entry) → Steps lane v w e → Steps lane (shown v) (shown w) e

@@ -41,7 +41,7 @@ use Rattle.com_core.specs.Seen.{IsWhole, TurnsTo, core_state, kept_of}
 use Rattle.com_parts.specs.Fits.{sent_by}
 use Rattle.com_core.specs.Changes.{Takes}
 use Rattle.com_core.specs.Making.{Changed, IsCore, MakesNext}
-use Rattle.com_core.specs.Stands.{IsGiven, IsReached, IsSent, Stands, seen_by}
+use Rattle.com_core.specs.Stands.{IsGiven, IsReached, IsSent, Stands, fields_in, seen_by}
 use Rattle.com_core.proofs.Booking.{booked_later}
 use Rattle.com_core.proofs.Entries.{reads_state}
 use Rattle.com_core.proofs.Taken.{next_taken}
@@ -53,14 +53,17 @@ issuing_by s v l d = record {
 }
 
 abbrev told : Issued → Issuing
-told i = record { refusal = i.refusal; values = i.values }
+told i = record { refusal = i.refusal; values = i.values.values }
 
 sent-turn : (w : Seen) (b : Books) (st : State) (l : ℕ) (d : Deed) (x : Enclosed) → Reads w b st → IsIssued w b l d x
     → IsSent w.scenario st (record { lane = l; deed = d }) (sent_by x)
 sent-turn w b st l d enclosed.Nothing h p = p
 sent-turn w b st l d (enclosed.Answer a) h p = p
 sent-turn w b st l d (enclosed.Issued i) h p =
-    ap (λ (v : Sight). issuing_by w.scenario v l d) (sight_read w b st h) ∙ ap (λ (y : Issued). told y) (sym p)
+    let v : sight_of w.scenario st ≡ sight_by w b = sight_read w b st h in (
+      ap (λ (x : Sight). issuing_by w.scenario x l d) v ∙ ap (λ (y : Issued). told y) (sym p),
+      ap (λ (y : Issued). y.values.fields) p ∙ ap (λ (x : Sight). fields_in w.scenario x l d) (sym v),
+    )
 
 -- A lane has fewer openers than there were entries, and a row of its own.
 pub few_openers : (s : Scenario) (st : State) (p : PartTables) (b : Books) (fallen : List ℕ) (clock l : ℕ) → IsReached s st → Stands st p b fallen clock → st.entries ≤ 1_000_000

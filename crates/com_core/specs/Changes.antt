@@ -1,5 +1,5 @@
 -- What an entry makes of the parts of a core, and of the list of the dying.
-use Rattle.std.specs.Prelude.{◌≡◌, ℕ, ◌+◌, ◌<◌, ◌^◌, Bool, List, Option, filter, length}
+use Rattle.std.specs.Prelude.{◌≡◌, ℕ, ◌+◌, ◌<◌, ◌^◌, Bool, List, Option, filter, is_some, length}
 use Rattle.com_body.specs.declared.frame.Outcome.{Outcome}
 use Rattle.com_model.specs.declared.deeds.Deed.{Deed}
 use Rattle.com_model.specs.declared.deeds.Entry.{Entry}
@@ -7,9 +7,10 @@ use Rattle.com_model.specs.Calls.{issues, object_of}
 use Rattle.com_model.specs.Dying.{fallen_more}
 use Rattle.com_model.specs.Frames.{Actor}
 use Rattle.com_model.specs.Objects.{finals}
+use Rattle.com_model.specs.State.{grown}
 use Rattle.com_objects.specs.Settled.{DieBut, Falls}
 use Rattle.com_parts.specs.Fits.{Sent}
-use Rattle.com_parts.specs.Changes.{issuing_of, moment_at}
+use Rattle.com_parts.specs.Changes.{fields_by, issuing_of, moment_at}
 use Rattle.com_parts.specs.Fits.{Fits, HasIssued, IsWriting}
 use Rattle.com_parts.specs.Tables.{PartTables}
 use Rattle.com_state.specs.Parts.{ObjectTables, lanes_after, objects_after, calls_after, named_at}
@@ -32,6 +33,7 @@ pub record Becomes (p q : PartTables) (e : Entry) (acting : Actor) (r : Option O
   pub objects : q.objects ≡ objects_after p.objects e
   pub calls : q.calls.tables
       ≡ calls_after p.objects (moment_at p.lanes e.lane filtered clock) (issuing_of x) p.calls.tables e
+  pub fields : q.calls.fields ≡ grown (is_some (issues e.lane e.deed)) (fields_by x) p.calls.fields
   pub scene : q.scene ≡ rows_after (named_at p.objects) acting r follows e p.scene
   pub entries : q.entries ≡ p.entries + 1
 

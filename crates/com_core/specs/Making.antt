@@ -23,6 +23,7 @@ use Rattle.com_reference_moves.specs.Tables.{ground_at}
 use Rattle.com_objects.specs.Settled.{Rise}
 use Rattle.com_parts.specs.Fits.{Sent}
 use Rattle.com_parts.specs.Tables.{PartTables}
+use Rattle.com_laws_messages.specs.Written.{fields_sent}
 use Rattle.com_laws_places.specs.Moves.{Moves}
 use Rattle.com_refs.specs.Counts.{holders_of}
 use Rattle.com_refs.specs.Totals.{Totals}
@@ -36,12 +37,13 @@ use Rattle.com_ledger.specs.Falling.{CountsHolders, Touches}
 use Rattle.com_core.specs.Stands.{IsGiven, IsReached, Stands, seen_by}
 
 -- What the parts of a core are between entries: those of a state that a legal history comes to, with the
--- bodies counted.
+-- bodies counted, and with the packets that the requests of the history carry.
 pub record IsCore (s : Scenario) (st : State) (p : PartTables) (b : Books) (entered fallen : List ℕ)
     (clock : ℕ) : Type 0 where
   pub reached : IsReached s st
   pub stands : Stands st p b fallen clock
   pub bodies : CountsBodies s st entered
+  pub fields : p.calls.fields ≡ fields_sent s reached.history
 
 -- What comes to places by an entry is by interfaces of the objects' sets, and is little: wherever the lane's
 -- home is, and whoever acts in the lane afterwards.

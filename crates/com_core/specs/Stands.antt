@@ -1,13 +1,18 @@
 -- The state of the rules that the parts of a core are, and when a core comes to it.
 use Rattle.std.specs.Prelude.{◌≡◌, ℕ, Bool, List, [], Option, Some, None}
+use Rattle.com_base.specs.declared.standard.StdFields.{StdFields}
 use Rattle.com_body.specs.declared.frame.Outcome.{Outcome}
 use Rattle.com_refs_books.specs.Changes.{Books}
+use Rattle.com_model.specs.declared.deeds.Deed.{Deed}
 use Rattle.com_model.specs.declared.deeds.Entry.{Entry}
 use Rattle.com_model.specs.declared.scenario.Scenario.{Scenario}
-use Rattle.com_model.specs.Calls.{issues}
+use Rattle.com_exchange.specs.Messages.{out_fields}
+use Rattle.com_model.specs.Books.{out_values}
+use Rattle.com_model.specs.Calls.{issues, route_of}
 use Rattle.com_model.specs.Formed.{Formed}
 use Rattle.com_model.specs.Frames.{Actor}
-use Rattle.com_model.specs.State.{State, StandsFor, SceneTables, BookTables, book_tables, books_in}
+use Rattle.com_model.specs.Sight.{Sight}
+use Rattle.com_model.specs.State.{State, StandsFor, SceneTables, BookTables, book_tables, books_in, is_marshalled_by, sight_of}
 use Rattle.com_parts.specs.Fits.{Sent}
 use Rattle.com_parts.specs.Tables.{PartTables}
 use Rattle.com_state.specs.After.{acting_in, step_in, actor_after, issuing_in, moment_in}
@@ -65,10 +70,18 @@ seen_by s p fallen clock = record {
   clock = clock;
 }
 
--- What is handed to the parts of the call that an entry issues is what the call has.
+-- The fields of the packets of the request of the call that a lane's action issues, as the rules see them.
+abbrev pub fields_in : Scenario → Sight → (lane : ℕ) → Deed → List StdFields
+fields_in s v l d =
+    out_fields s v l (route_of (issues l d)) (out_values s v.books (is_marshalled_by (issues l d)) (v.act l))
+
+-- What is handed to the parts of the call that an entry issues is what the call has, with the fields of the packets
+-- of its request.
 abbrev pub IsSent : Scenario → State → Entry → Option Sent → Type 0
 IsSent s st e None = issues e.lane e.deed ≡ None
-IsSent s st e (Some x) = issuing_in s st e ≡ record { refusal = x.refusal; values = x.values }
+IsSent s st e (Some x) =
+    (issuing_in s st e ≡ record { refusal = x.refusal; values = x.values })
+    × (x.fields ≡ fields_in s (sight_of s st) e.lane e.deed)
 
 -- What is handed to the parts of an entry is what there is in the state: who acts, the step of whoever does,
 -- who acts afterwards, whether the caller of a call has a filter, and what the call has that the entry

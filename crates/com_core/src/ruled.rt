@@ -41,6 +41,7 @@ impl Running {
         deed: &mut Deed,
     ) -> Result<bool, Memory>
         requires core { IsWholeCore (kept_of scenario.now self.now) }
+        requires room { self.now.parts.entries < limit scenario.now }
         requires ruled { is_ruled (seen_by scenario.now self.now.parts self.now.fallen.objects self.now.clock) lane
             ≡ true }
         ensures named { IsNamed self.now.parts.objects self.now.parts.calls }

@@ -23,7 +23,7 @@ pub returns-clause-becomes : goal.returns-clause-becomes
 returns-clause-becomes c =
     let m = c.apply_alone.ensures in
     becomes_alone c.args.self.now.parts c.apply_alone.new.self c.args.entry.now c.args.has_filter c.args.self.now.clock c.requires.alone
-    m.lanes m.objects m.calls m.scene m.entries
+    m.lanes m.objects m.calls m.fields m.scene m.entries
 
 pub returns-clause-bodies : goal.returns-clause-bodies
 returns-clause-bodies c = subst (λ (t : SceneTables). All HasSlots t.bodies) (sym c.apply_alone.ensures.scene) c.requires.sound.bodies

@@ -6,7 +6,7 @@ use Rattle.com_core.proofs.running.Running.finish_parts.Goals as goal
 
 pub returns-clause-becomes : goal.returns-clause-becomes
 returns-clause-becomes c =
-    let f = c.finish.ensures in record { lanes = f.lanes; objects = f.objects; calls = f.calls; scene = f.scene; entries = f.entries }
+    let f = c.finish.ensures in record { lanes = f.lanes; objects = f.objects; calls = f.calls; fields = f.fields; scene = f.scene; entries = f.entries }
 
 pub returns-clause-bodies : goal.returns-clause-bodies
 returns-clause-bodies c =

@@ -9,6 +9,8 @@ use Rattle.com_model.specs.Rules.{lane_next}
 use Rattle.com_core.specs.Stands.{seen_by, state_read}
 use Rattle.com_core.proofs.Turned.{none_next}
 use Rattle.com_core.proofs.Roomy.{acts_seen, room_seen}
+use Rattle.com_view.specs.Packed.{IsPacked}
+use Rattle.com_core.proofs.Packed.{packed_seen}
 use Rattle.com_core.proofs.running.Running.own_turn_of.Goals as goal
 
 pub returns-then-made-clause-turn : goal.returns-then-made-clause-turn
@@ -43,3 +45,11 @@ own_turn-requires-clause-acts c =
     let b = books_held r.ledger in
     subst (λ (w : Seen). ActsFit w) (sym c.view-view.ensures.value)
     (acts_seen s (state_read s r.parts b r.fallen.objects r.clock) r.parts b r.fallen.objects r.clock c.requires.core.reached c.requires.core.stands)
+
+pub own_turn-requires-clause-packed : goal.own_turn-requires-clause-packed
+own_turn-requires-clause-packed c =
+    let s = c.args.scenario.now in
+    let r = c.args.self.now in
+    let b = books_held r.ledger in
+    subst (λ (w : Seen). IsPacked w b) (sym c.view-view.ensures.value)
+    (packed_seen s (state_read s r.parts b r.fallen.objects r.clock) r.parts b r.fallen.objects r.clock c.requires.core.reached c.requires.core.stands c.view-view.ensures.named c.requires.core.fields c.requires.room)

@@ -12,6 +12,8 @@ use Rattle.com_view.specs.Seen.{Seen, bare}
 use Rattle.com_core.specs.Stands.{seen_by, state_read}
 use Rattle.com_core.proofs.ByRules.{made_is}
 use Rattle.com_core.proofs.Tried.{turn_tells}
+use Rattle.com_view.specs.Packed.{IsPacked}
+use Rattle.com_core.proofs.Packed.{packed_seen}
 use Rattle.com_core.proofs.running.Running.rule.Goals as goal
 
 pub returns-clause-turn : goal.returns-clause-turn
@@ -44,3 +46,11 @@ rule_turn-requires-clause-script c =
     let r = c.args.self.now in
     subst (λ (w : Seen). is_script_turn (lane_sort w.scenario c.args.lane) (top (bare w) c.args.lane) ((bare w).over c.args.lane) ≡ false) (sym c.view-view.ensures.value)
     (ruled_script (seen_by s r.parts r.fallen.objects r.clock) (books_held r.ledger) c.args.lane c.requires.ruled)
+
+pub rule_turn-requires-clause-packed : goal.rule_turn-requires-clause-packed
+rule_turn-requires-clause-packed c =
+    let s = c.args.scenario.now in
+    let r = c.args.self.now in
+    let b = books_held r.ledger in
+    subst (λ (w : Seen). IsPacked w b) (sym c.view-view.ensures.value)
+    (packed_seen s (state_read s r.parts b r.fallen.objects r.clock) r.parts b r.fallen.objects r.clock c.requires.core.reached c.requires.core.stands c.view-view.ensures.named c.requires.core.fields c.requires.room)

@@ -13,6 +13,8 @@ use Rattle.com_core.specs.Stands.{seen_by, state_read}
 use Rattle.com_core.proofs.OpenWork.{works_seen}
 use Rattle.com_core.proofs.Roomy.{acts_seen, room_seen}
 use Rattle.com_core.proofs.Tried.{turn_tells}
+use Rattle.com_view.specs.Packed.{IsPacked}
+use Rattle.com_core.proofs.Packed.{packed_seen}
 use Rattle.com_core.proofs.running.Running.turn_of.Goals as goal
 
 some_where : (made : Bool) (t : Turn) → made ≡ is_some (where_true made t)
@@ -59,3 +61,11 @@ next_turn-requires-clause-works g c =
     let b = books_held r.ledger in
     subst (λ (w : Seen). BodiesWork w) (sym c.view-view.ensures.value)
     (works_seen s (state_read s r.parts b r.fallen.objects r.clock) r.parts b r.fallen.objects r.clock c.requires.core.reached c.requires.core.stands)
+
+pub next_turn-requires-clause-packed : goal.next_turn-requires-clause-packed
+next_turn-requires-clause-packed g c =
+    let s = c.args.scenario.now in
+    let r = c.args.self.now in
+    let b = books_held r.ledger in
+    subst (λ (w : Seen). IsPacked w b) (sym c.view-view.ensures.value)
+    (packed_seen s (state_read s r.parts b r.fallen.objects r.clock) r.parts b r.fallen.objects r.clock c.requires.core.reached c.requires.core.stands c.view-view.ensures.named c.requires.core.fields c.requires.room)
