@@ -238,6 +238,7 @@ seen_cut o x rows posted waiting left room causes q many =
     } in λ i. record {
       tables = (tables ∙ cut-whole o t x) i;
       apartments = kept-cut (λ (r : RowView). r.apartment) x rows (λ r. refl) i;
+      fields = [];
       room = room;
       inboxes = many i;
     }

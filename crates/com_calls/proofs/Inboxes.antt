@@ -205,6 +205,7 @@ pub seen_retired : (f : RowView → RowView) (c : ℕ) (rows : List RowView) (po
 seen_retired f c rows posted waiting room causes t e home = λ i. record {
   tables = sym e i;
   apartments = sym (column (λ (r : RowView). r.apartment) f None c 0 rows home) i;
+  fields = [];
   room = room;
   inboxes = length-map waiting.queues (without c) i;
 }
@@ -215,6 +216,7 @@ pub seen_left : (c : ℕ) (hr : HResult) (v : Option Value) (rows : List RowView
 seen_left c hr v rows ys posted waiting room causes = λ i. record {
   tables = sym (tables_left c hr v rows ys posted causes) i;
   apartments = sym (column (λ (r : RowView). r.apartment) (left_with c hr v) None c 0 rows (λ r. refl)) i;
+  fields = [];
   room = room;
   inboxes = length-map waiting.queues (without c) i;
 }
@@ -225,6 +227,7 @@ pub seen_same : (f : RowView → RowView) (c : ℕ) (rows : List RowView) (poste
 seen_same f c rows posted waiting room causes t e home = λ i. record {
   tables = sym e i;
   apartments = sym (column (λ (r : RowView). r.apartment) f None c 0 rows home) i;
+  fields = [];
   room = room;
   inboxes = length waiting.queues;
 }
@@ -328,6 +331,7 @@ pub seen_posted : (c : ℕ) (rows : List RowView) (posted : List ℕ) (waiting :
 seen_posted c rows posted waiting queue room causes = λ i. record {
   tables = sym (tables_phased Queued c rows (posted_last (Posts c) posted) causes) i;
   apartments = sym (column (λ (r : RowView). r.apartment) (phased Queued) None c 0 rows (λ r. refl)) i;
+  fields = [];
   room = room;
   inboxes = (set-kept (map (without c) waiting.queues) queue (queue_at (without_number waiting c) queue ++ c ∷ []) ∙ length-map waiting.queues (without c)) i;
 }
@@ -337,6 +341,7 @@ pub seen_posted_closed : (c : ℕ) (rows : List RowView) (posted : List ℕ) (wa
 seen_posted_closed c rows posted waiting room causes = λ i. record {
   tables = sym (tables_phased Queued c rows (posted_last (Posts c) posted) causes) i;
   apartments = sym (column (λ (r : RowView). r.apartment) (phased Queued) None c 0 rows (λ r. refl)) i;
+  fields = [];
   room = room;
   inboxes = length-map waiting.queues (without c) i;
 }

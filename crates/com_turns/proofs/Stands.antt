@@ -2,11 +2,13 @@
 use Rattle.std.proofs.Common.{◌≡◌, ℕ, ◌≤◌, ◌==◌, nat_le, Bool, true, false, cond, List, [], Option, Some, None, refl, ap, sym, ◌∙◌, eqb-true, arith}
 use Rattle.std.proofs.lemmas.Bool.{false_from_ne_true, le-leb}
 use Rattle.std.specs.Prelude.{is_some}
+use Rattle.com_base.specs.declared.standard.StdFields.{StdFields}
 use Rattle.com_body.specs.declared.frame.Outcome.{Outcome}
 use Rattle.com_refs_books.specs.Changes.{Books}
 use Rattle.com_calls.specs.declared.rows.Enclosed.{Enclosed}
 use Rattle.com_calls.specs.declared.rows.Enclosed.TheVariants as enclosed
 use Rattle.com_calls.specs.declared.rows.Issued.{Issued}
+use Rattle.com_exchange.specs.Messages.{out_fields}
 use Rattle.com_model.specs.declared.deeds.Deed.{Deed}
 use Rattle.com_model.specs.declared.deeds.Deed.TheVariants as deed
 use Rattle.com_model.specs.declared.deeds.Entry.{Entry}
@@ -14,7 +16,7 @@ use Rattle.com_model.specs.declared.keeps.Issue.{Issue}
 use Rattle.com_model.specs.declared.keeps.Opener.{Opener}
 use Rattle.com_model.specs.declared.scenario.Scenario.{Scenario}
 use Rattle.com_model.specs.Books.{out_values}
-use Rattle.com_model.specs.Calls.{admits, issues, lane_of, object_of}
+use Rattle.com_model.specs.Calls.{admits, issues, lane_of, object_of, route_of}
 use Rattle.com_model.specs.Frames.{Actor, Nobody, acting, actor, outcome, unless_final, unless_over}
 use Rattle.com_model.specs.Issue.{action_refusal, or_ok}
 use Rattle.com_model.specs.Lists.{first}
@@ -127,6 +129,13 @@ issuing_told : (w : Seen) (b : Books) (st : State) (l : ℕ) (d : Deed) → Read
     → told_of (enclosed.Issued (issuing_seen w b l d)) ≡ issuing_in w.scenario st (record { lane = l; deed = d })
 issuing_told w b st l d h =
     ap (λ (v : Sight). issuing_by w.scenario v l d) (sym (reads_state w b st h))
+
+abbrev fields_by : Scenario → Sight → ℕ → Deed → List StdFields
+fields_by s v l d = out_fields s v l (route_of (issues l d)) (out_values s v.books (is_marshalled_by (issues l d)) (v.act l))
+
+pub fields_stand : (w : Seen) (b : Books) (st : State) (l : ℕ) (d : Deed) → Reads w b st
+    → (issuing_seen w b l d).values.fields ≡ out_fields w.scenario (sight_of w.scenario st) l (route_of (issues l d)) (out_values w.scenario (books_in st) (is_marshalled_by (issues l d)) ((sight_of w.scenario st).act l))
+fields_stand w b st l d h = ap (λ (v : Sight). fields_by w.scenario v l d) (sym (reads_state w b st h))
 
 pub issued_stands : (w : Seen) (b : Books) (st : State) (l : ℕ) (d : Deed) (x : Enclosed) → Reads w b st → IsIssued w b l d x
     → (o : ObjectTables) (m : Moment) (t : CallTables)

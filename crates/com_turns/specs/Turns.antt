@@ -12,14 +12,16 @@ use Rattle.com_calls.specs.declared.rows.Enclosed.{Enclosed}
 use Rattle.com_calls.specs.declared.rows.Enclosed.TheVariants as enclosed
 use Rattle.com_calls.specs.declared.rows.Issued.{Issued}
 use Rattle.com_calls.specs.Enclosures.{HasAnswer}
+use Rattle.com_exchange.specs.Messages.{Letter}
 use Rattle.com_model.specs.declared.deeds.Deed.{Deed}
 use Rattle.com_model.specs.declared.deeds.Deed.TheVariants as deed
+use Rattle.com_model.specs.declared.keeps.Issue.{Issue}
 use Rattle.com_model.specs.declared.keeps.Opener.{Opener}
 use Rattle.com_model.specs.declared.keeps.Opener.TheVariants.{Enters}
 use Rattle.com_model.specs.declared.scenario.Scenario.{Scenario}
 use Rattle.com_model.specs.Answers.{S_OK}
 use Rattle.com_model.specs.Books.{out_values}
-use Rattle.com_model.specs.Calls.{issues, object_of}
+use Rattle.com_model.specs.Calls.{issues, object_of, route_of}
 use Rattle.com_model.specs.Frames.{Actor as Acting, Body, Nobody, actor, script_of, acting, issued_body}
 use Rattle.com_model.specs.Frames.{outcome, unless_over}
 use Rattle.com_model.specs.Issue.{action_refusal, or_ok}
@@ -29,6 +31,7 @@ use Rattle.com_model.specs.Rules.{is_script_turn, lane_next, top}
 use Rattle.com_model.specs.State.{is_marshalled_by, scene_read}
 use Rattle.com_model.specs.Values.{carried, result_list}
 use Rattle.com_model.specs.Tables.{LaneSort, lane_sort, script}
+use Rattle.com_rules.specs.Acts.{sent_on}
 use Rattle.com_rules.specs.Fits.{FitsAction}
 use Rattle.com_scene.specs.declared.actor.Actor.TheVariants as performer
 use Rattle.com_scene.specs.Actors.{acting_of}
@@ -86,17 +89,23 @@ ActsFit w = (a : Acting) (r : Outcome) → outcome_seen w a ≡ Some r → FitsA
 
 -- ---- what goes with an entry
 
+-- What a call sends that an entry issues, by its route and the action that the entry's lane makes, if any: the values,
+-- and the fields of the packets of its request.
+abbrev pub letter_with : Seen → Books → ℕ → Option Issue → Option Action → Letter
+letter_with w b l i x =
+    sent_on w.scenario (sight_by w b) l (route_of i) (out_values w.scenario b (is_marshalled_by i) x)
+
 -- What the call has that an entry issues, by the action that the entry's lane makes, if any.
 abbrev pub issuing_with : Seen → Books → ℕ → Deed → Option Action → Issued
 issuing_with w b l d x = record {
   refusal = or_ok (action_refusal w.scenario (home_seen w l) (running_seen w l) (sight_by w b).owns b.live x);
-  values = out_values w.scenario b (is_marshalled_by (issues l d)) x;
+  values = letter_with w b l (issues l d) x;
   apartment = named_at w.objects (object_of (issues l d));
 }
 
 -- What the calls are told of it.
 abbrev pub told_of : Enclosed → Issuing
-told_of (enclosed.Issued i) = record { refusal = i.refusal; values = i.values }
+told_of (enclosed.Issued i) = record { refusal = i.refusal; values = i.values.values }
 told_of _ = record { refusal = S_OK; values = [] }
 
 abbrev pub issuing_seen : Seen → Books → ℕ → Deed → Issued

@@ -17,6 +17,7 @@ ghost use Rattle.com_state.specs.Parts.{openers_at};
 ghost use Rattle.com_turns.specs.Turns.{ActsFit, IsNext, IsTurn, Steps, body_seen, deed_made, is_ruled};
 ghost use Rattle.com_turns.specs.Turns.{kind_seen, turn_made};
 ghost use Rattle.com_turns.specs.Work.{BodiesWork};
+ghost use Rattle.com_view.specs.Packed.{IsPacked};
 ghost use Rattle.com_view.specs.Seen.{bare, sight_by};
 
 use crate::steps::{Bench, body_step, script_step};
@@ -188,6 +189,7 @@ pub fn rule_turn<B: Found>(
     lane: u32,
     deed: &mut Deed,
 ) -> Result<bool, Memory>
+    requires packed { IsPacked view.now (B.books books.now) }
     requires body { is_body (top (bare view.now) lane) ≡ false }
     requires script { is_script_turn (lane_sort view.now.scenario lane)
         (top (bare view.now) lane) ((bare view.now).over lane) ≡ false }
@@ -206,6 +208,7 @@ fn ruled_turn<B: Found>(
     lane: u32,
     turn: &mut Turn,
 ) -> Result<bool, Memory>
+    requires packed { IsPacked view.now (B.books books.now) }
     requires body { is_body (top (bare view.now) lane) ≡ false }
     requires script { is_script_turn (lane_sort view.now.scenario lane)
         (top (bare view.now) lane) ((bare view.now).over lane) ≡ false }
@@ -231,6 +234,7 @@ pub fn own_turn<B: Found>(
 ) -> Result<bool, Memory>
     requires none { step.old ≡ None }
     requires room { HasRoom view.now (B.books books.now) }
+    requires packed { IsPacked view.now (B.books books.now) }
     requires acts { ActsFit view.now }
     requires body { is_body (top (bare view.now) lane) ≡ false }
     ensures whole { IsWhole step.new }
@@ -331,6 +335,7 @@ pub fn next_turn<B: Found>(
 ) -> Result<bool, Memory>
     requires none { bench.old.step ≡ None }
     requires room { HasRoom view.now (B.books books.now) }
+    requires packed { IsPacked view.now (B.books books.now) }
     requires acts { ActsFit view.now }
     requires bodies { BodiesWhole view.now.scene }
     requires works { BodiesWork view.now }

@@ -1,4 +1,4 @@
-use Rattle.com_turns.proofs.Stands.{acting_stands, after_stands, apartment_stands, carried_stands, filtered_stands, issued_stands, kind_stands, next_stands, step_stands}
+use Rattle.com_turns.proofs.Stands.{acting_stands, after_stands, apartment_stands, carried_stands, fields_stand, filtered_stands, issued_stands, kind_stands, next_stands, step_stands}
 use Rattle.com_turns.proofs.laws.reads_the_turn.Goals as goal
 
 pub returns-clause-next : goal.returns-clause-next
@@ -15,6 +15,9 @@ returns-clause-after c = after_stands
 
 pub returns-clause-issued : goal.returns-clause-issued
 returns-clause-issued c = issued_stands
+
+pub returns-clause-fields : goal.returns-clause-fields
+returns-clause-fields c = fields_stand
 
 pub returns-clause-apartment : goal.returns-clause-apartment
 returns-clause-apartment c = apartment_stands

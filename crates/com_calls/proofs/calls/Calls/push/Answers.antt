@@ -42,7 +42,7 @@ invariant_of-self c =
 pub returns : goal.returns
 returns c =
     let s = c.self.inside in
-    ap (λ (fss : List (List StdFields)). with_fields (with_later (kept_of (s.rows.items ++ c.new.result ∷ []) s.posted.calls s.waiting s.room (c.causalities_of.result + s.causes)) s.later.items) fss) c.with_last-self-inside.ensures
+    ap (λ (fss : List (List StdFields)). with_fields (with_later (kept_of c.push_reserved.new.self.items s.posted.calls s.waiting s.room (c.causalities_of.result + s.causes)) s.later.items) fss) c.with_last-self-inside.ensures
     ∙ ap (λ (xs : List RowView). with_fields (with_later (kept_of xs s.posted.calls s.waiting s.room (c.causalities_of.result + s.causes)) s.later.items) (s.packed.fields ++ c.args.issued.values.fields ∷ [])) (c.push_reserved.ensures.items ∙ ap (λ (r : RowView). s.rows.items ++ r ∷ []) c.new.ensures)
     ∙ seen_grown c.args.issue c.args.issued c.args.clock s.rows.items s.later.items s.packed.fields s.posted.calls s.waiting s.room s.causes c.causalities_of.result (omega (arith, c.self.invariant.4, s.rows.ok.0, s.later.ok.0))
     ∙ ap (λ (b : Kept). with_call b c.args.issued.apartment c.args.issued.values.fields (grown_at b.tables c.args.issue (record { refusal = c.args.issued.refusal; values = c.args.issued.values.values }) c.args.clock c.causalities_of.result)) c.self.view_is

@@ -27,8 +27,8 @@ stayed = (stay_dropped _ yes, (stay_dropped _ yes, tt))
 pub with_last_spec : {M : Type 1} → statement M
 with_last_spec 𝓤 𝓛 𝓜 𝓡 wired =
     let c = f.clauses 𝓛 𝓜.mem 𝓡.returns in let W = walk_of 𝓛 f.ended stayed c in
-    let order = Goes-dropped 𝓛 1 (RefOf (0 ∷ []) tt (plain (λ _. Packed.the_row)) (λ _. tt)) yes (λ κs x w. refl) in
-    let message = Goes-dropped 𝓛 1 (RefOf (1 ∷ []) tt (plain (λ _. Message.the_row)) (λ _. tt)) yes (λ κs x w. refl) in
+    let order = Goes-dropped 𝓛 2 (RefOf (0 ∷ []) tt (plain (λ _. Packed.the_row)) (λ _. tt)) yes (λ κs x w. refl) in
+    let message = Goes-dropped 𝓛 2 (RefOf (1 ∷ []) tt (plain (λ _. Message.the_row)) (λ _. tt)) yes (λ κs x w. refl) in
     proved 𝓛 f.ended stayed c 𝓜 𝓡 (order, (message, tt))
     f.Key.name code.function (code.unfolded 𝓤 𝓛.H 𝓜 𝓡 wired)
     (λ κs. (shr_vals, (shr_vals, tt))) (λ κs. ((λ r vs s. s.0), ((λ r vs s. s.0), tt))) (λ κs qs bounds a _ are.
