@@ -18,4 +18,4 @@ pub use com_rules::Doing;
 pub use laws::{nobody_acts_for_the_clock, reads_the_turn};
 pub use steps::Bench;
 pub use turns::{Turn, given_turn, is_ruled, next_turn, own_turn, rule_turn};
-pub use work::{fill_work, fits_work, same_cells, work_of};
+pub use work::{fits_work, same_cells, work_of};

@@ -1,6 +1,6 @@
 //! The step of whoever acts in a lane.
 
-ghost use Rattle.std.specs.Prelude.{◌≡◌, ◌≤◌, None, OnOk, Some, map};
+ghost use Rattle.std.specs.Prelude.{◌≡◌, ◌≤◌, IfOk, None, OnOk, Some, map};
 ghost use Rattle.com_model.specs.Tables.{threads};
 ghost use Rattle.com_servant.specs.Rows.{one_served, row};
 ghost use Rattle.com_servant.specs.Steps.{native_at};
@@ -9,7 +9,8 @@ ghost use Rattle.com_turns.specs.Turns.{body_seen, script_seen};
 ghost use Rattle.com_turns.specs.Work.{HasWork};
 ghost use Rattle.com_reference_moves.specs.Steps.{BodiesWhole, IsWhole};
 
-use crate::{fill_work, step_of};
+use crate::step_of;
+use crate::work::{fill_work, no_job};
 use com_base::Memory;
 use com_body::{Job, Outcome};
 use com_scene::Actor;
@@ -25,6 +26,18 @@ pub struct Bench {
     pub job: Job,
     /// The step of the entry that was made last, if it was somebody's.
     pub step: Option<Outcome>,
+}
+
+impl Bench {
+    /// The bench before the first step. The only error is want of memory.
+    pub fn new(alloc: Global) -> Result<Bench, Memory>
+        ensures none { IfOk result (λ bench. bench.step ≡ None) }
+    {
+        Ok(Bench {
+            job: no_job(alloc)?,
+            step: None,
+        })
+    }
 }
 
 /// Puts the next step of the body of a call, on an object, on the bench, by the servant of its class's kind,

@@ -9,47 +9,23 @@ ghost use Rattle.com_turns.specs.Work.{HasWork, IsWork, work_seen};
 
 use crate::frames::{is_first_frame, same_frame};
 use com_base::Memory;
-use com_body::{Cells, Frame, Job};
+use com_body::{Cells, Frame, Job, Native};
 use com_scene::Actor;
 use com_view::View;
 use std::alloc::Global;
 
-// A copy of the frame of a body.
-fn frame_of(view: &View<'_>, alloc: Global, call: u32, object: u32) -> Result<Frame, Memory>
-    requires bodies { BodiesWhole view.now.scene }
-    ensures whole { IfOk result (λ frame. HasSlots frame) }
-    ensures frame { IfOk result (λ frame. frame ≡ body_at view.now.scene call) }
-{
-    match view.scene.frame(Actor::Body { call, object }) {
-        Some(frame) => frame.copy(alloc),
-        None => Frame::enter(alloc, &[]),
-    }
-}
-
-/// The job of the body of a call on an object: on copies of the body's frame and the object's cells. The only
-/// error is want of memory.
-pub fn work_of(view: &View<'_>, alloc: Global, call: u32, object: u32) -> Result<Job, Memory>
-    requires bodies { BodiesWhole view.now.scene }
-    requires work { HasWork view.now call object }
-    ensures job { IfOk result (λ job. work_seen view.now call object ≡ Some job) }
-    ensures class { IfOk result (λ job. IsOfItsClass view.now.scenario.classes job) }
+/// A job before there is one: frames of bodies are copied into the memory of its frame. The only error is want of
+/// memory.
+pub(crate) fn no_job(alloc: Global) -> Result<Job, Memory>
     ensures whole { IfOk result (λ job. HasSlots job.frame) }
 {
-    let class = view.objects.class(object);
-    let Some(declared) = view.scenario.classes.class(class) else {
-        unreachable!()
-    };
-    let Some(issue) = view.calls.issue(call) else {
-        unreachable!()
-    };
-    let frame = frame_of(view, alloc, call, object)?;
     Ok(Job {
-        kind: declared.native,
-        class,
-        iface: issue.iface,
-        method: issue.method,
-        frame,
-        cells: view.scene.cells(object),
+        kind: Native::Bodies,
+        class: 0,
+        iface: 0,
+        method: 0,
+        frame: Frame::enter(alloc, &[])?,
+        cells: Cells::new(),
     })
 }
 
@@ -76,7 +52,7 @@ fn fill_frame(
 
 /// Makes a job that of the body of a call on an object, in the memory that it has. The only error is want of memory:
 /// then it is some job.
-pub fn fill_work(
+pub(crate) fn fill_work(
     view: &View<'_>,
     alloc: Global,
     call: u32,
@@ -102,6 +78,20 @@ pub fn fill_work(
     job.method = issue.method;
     job.cells = view.scene.cells(object);
     fill_frame(view, alloc, call, object, &mut job.frame)
+}
+
+/// The job of the body of a call on an object: on copies of the body's frame and the object's cells. The only
+/// error is want of memory.
+pub fn work_of(view: &View<'_>, alloc: Global, call: u32, object: u32) -> Result<Job, Memory>
+    requires bodies { BodiesWhole view.now.scene }
+    requires work { HasWork view.now call object }
+    ensures job { IfOk result (λ job. work_seen view.now call object ≡ Some job) }
+    ensures class { IfOk result (λ job. IsOfItsClass view.now.scenario.classes job) }
+    ensures whole { IfOk result (λ job. HasSlots job.frame) }
+{
+    let mut job = no_job(alloc)?;
+    fill_work(view, alloc, call, object, &mut job)?;
+    Ok(job)
 }
 
 // Whether a frame is that of a body.
