@@ -34,14 +34,14 @@ use Rattle.com_view.specs.Seen.{Seen, filter_seen, sight_by}
 use Rattle.com_view.proofs.Sights.{reads_state as sight_read}
 use Rattle.com_turns.specs.declared.turns.Turn.{Turn}
 use Rattle.com_turns.specs.Turns.{IsIssued, IsTurn, actor_later}
-use Rattle.com_turns.proofs.Stands.{acting_stands, after_stands, filtered_stands, next_stands, step_stands}
+use Rattle.com_turns.proofs.Stands.{acting_stands, after_stands, fields_stand, filtered_stands, next_stands, step_stands}
 use Rattle.com_refs_rows.specs.Books.{Held, books_held}
 use Rattle.com_core.specs.declared.running.Running.{Running}
 use Rattle.com_core.specs.Seen.{IsWhole, TurnsTo, core_state, kept_of}
 use Rattle.com_parts.specs.Fits.{sent_by}
 use Rattle.com_core.specs.Changes.{Takes}
 use Rattle.com_core.specs.Making.{Changed, IsCore, MakesNext}
-use Rattle.com_core.specs.Stands.{IsGiven, IsReached, IsSent, Stands, fields_in, seen_by}
+use Rattle.com_core.specs.Stands.{IsGiven, IsReached, IsSent, Stands, seen_by}
 use Rattle.com_core.proofs.Booking.{booked_later}
 use Rattle.com_core.proofs.Entries.{reads_state}
 use Rattle.com_core.proofs.Taken.{next_taken}
@@ -60,9 +60,9 @@ sent-turn : (w : Seen) (b : Books) (st : State) (l : ℕ) (d : Deed) (x : Enclos
 sent-turn w b st l d enclosed.Nothing h p = p
 sent-turn w b st l d (enclosed.Answer a) h p = p
 sent-turn w b st l d (enclosed.Issued i) h p =
-    let v : sight_of w.scenario st ≡ sight_by w b = sight_read w b st h in (
-      ap (λ (x : Sight). issuing_by w.scenario x l d) v ∙ ap (λ (y : Issued). told y) (sym p),
-      ap (λ (y : Issued). y.values.fields) p ∙ ap (λ (x : Sight). fields_in w.scenario x l d) (sym v),
+    (
+      ap (λ (v : Sight). issuing_by w.scenario v l d) (sight_read w b st h) ∙ ap (λ (y : Issued). told y) (sym p),
+      ap (λ (y : Issued). y.values.fields) p ∙ fields_stand w b st l d h,
     )
 
 -- A lane has fewer openers than there were entries, and a row of its own.
