@@ -1,7 +1,7 @@
 //! A runtime that makes one entry at a time.
 
 ghost use Rattle.std.specs.Prelude.{◌≡◌, ◌<◌, ◌≤◌, ◌∷◌, ◌↔◌, [], IfErr, IfOk, IsTrue, OnErr, OnOk};
-ghost use Rattle.std.specs.Prelude.{IfSome, IsSome, None, Some, false, map, true};
+ghost use Rattle.std.specs.Prelude.{IfSome, IsSome, Some, false, map, true};
 ghost use Rattle.std.specs.Arc.{arc_value};
 ghost use Rattle.com_core.specs.Beginning.{BeginsParts};
 ghost use Rattle.com_core.specs.Seen.{IsFirst, Steps, core_state};
@@ -23,7 +23,7 @@ ghost use Rattle.com_servant.specs.Steps.{IsOfItsClass, job_step};
 
 use crate::running::Running;
 use com_base::Memory;
-use com_body::{Cells, Frame, Job, Native, Outcome};
+use com_body::{Job, Outcome};
 use com_model::{Counts, Deed, Entry, Scenario};
 use com_runtime::{CommitError, Jobs, Next, Runtime, Standing};
 use com_schedule::Tries;
@@ -72,21 +72,6 @@ impl Model for Core {
         × IsKept (core_of (arc_value c.scenario) c.running) };
 }
 
-// The bench before the first step. The only error is want of memory.
-fn no_bench(alloc: Global) -> Result<Bench, Memory>
-    ensures { IfOk result (λ bench. bench.step ≡ None) }
-{
-    let job = Job {
-        kind: Native::Bodies,
-        class: 0,
-        iface: 0,
-        method: 0,
-        frame: Frame::enter(alloc, &[])?,
-        cells: Cells::new(),
-    };
-    Ok(Bench { job, step: None })
-}
-
 // What stands in the place of an entry before there is one.
 fn no_entry() -> Entry {
     Entry {
@@ -115,7 +100,7 @@ impl Core {
             scenario,
             count,
             running,
-            bench: no_bench(alloc)?,
+            bench: Bench::new(alloc)?,
             made: no_entry(),
         })
     }
