@@ -1,5 +1,5 @@
 -- Where neither a body nor a script acts, no servant makes a step.
-use Rattle.std.proofs.Common.{◌≡◌, true, sym, ◌∙◌}
+use Rattle.std.proofs.Common.{sym, ◌∙◌}
 use Rattle.com_refs_rows.specs.Books.{books_held}
 use Rattle.com_core.specs.Stands.{seen_by}
 use Rattle.com_core.proofs.ByRules.{ruled_serves}
