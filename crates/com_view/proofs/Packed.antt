@@ -1,9 +1,10 @@
 -- The packet of an argument was given up exactly where the fields of its call's request name none.
-use Rattle.std.proofs.Common.{◌≡◌, ℕ, Bool, true, false, not, ◌||◌, ◌&&◌, List, [], ◌∷◌, map, Option, Some, None, is_none, refl, ap, ◌∙◌}
+use Rattle.std.proofs.Common.{◌≡◌, ℕ, Bool, true, false, not, ◌||◌, ◌&&◌, if◌then◌else◌, List, [], ◌∷◌, map, Option, is_none, refl, ap, ◌∙◌}
 use Rattle.com_base.specs.declared.standard.StdFields.{StdFields}
 use Rattle.com_refs_books.specs.Changes.{Books, packet}
 use Rattle.com_calls.specs.Kept.{fields_at}
 use Rattle.com_exchange.specs.Messages.{any_lost}
+use Rattle.com_model.specs.declared.deeds.Deed.{Deed}
 use Rattle.com_model.specs.declared.scenario.Scenario.{Scenario}
 use Rattle.com_model.specs.Calls.{is_marshalled, route_of}
 use Rattle.com_model.specs.Deeds.{named_packet}
@@ -37,3 +38,11 @@ lost_is_gone w b c h =
       | true ↦ λ e. gone_by w.scenario v (fields_at w.calls c) (b.arguments c) (h.found c e)
       | false ↦ λ e. ap (any_lost (named_packet w.scenario v)) (h.plain c e)
     ] refl
+
+pub enters : (gone : Bool) (x y d : Deed) → gone ≡ false → d ≡ y → d ≡ (if gone then x else y)
+enters true x y d p e = cc
+enters false x y d p e = e
+
+pub refuses : (gone : Bool) (x y : Deed) → gone ≡ true → x ≡ (if gone then x else y)
+refuses true x y p = refl
+refuses false x y p = cc
