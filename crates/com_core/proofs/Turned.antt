@@ -59,11 +59,10 @@ sent-turn : (w : Seen) (b : Books) (st : State) (l : ℕ) (d : Deed) (x : Enclos
     → IsSent w.scenario st (record { lane = l; deed = d }) (sent_by x)
 sent-turn w b st l d enclosed.Nothing h p = p
 sent-turn w b st l d (enclosed.Answer a) h p = p
-sent-turn w b st l d (enclosed.Issued i) h p =
-    (
-      ap (λ (v : Sight). issuing_by w.scenario v l d) (sight_read w b st h) ∙ ap (λ (y : Issued). told y) (sym p),
-      ap (λ (y : Issued). y.values.fields) p ∙ fields_stand w b st l d h,
-    )
+sent-turn w b st l d (enclosed.Issued i) h p = (
+  ap (λ (v : Sight). issuing_by w.scenario v l d) (sight_read w b st h) ∙ ap (λ (y : Issued). told y) (sym p),
+  ap (λ (y : Issued). y.values.fields) p ∙ fields_stand w b st l d h,
+)
 
 -- A lane has fewer openers than there were entries, and a row of its own.
 pub few_openers : (s : Scenario) (st : State) (p : PartTables) (b : Books) (fallen : List ℕ) (clock l : ℕ) → IsReached s st → Stands st p b fallen clock → st.entries ≤ 1_000_000
