@@ -27,7 +27,7 @@ ghost use Rattle.com_model.specs.Calls.{issues, lane_of, object_of};
 ghost use Rattle.com_model.specs.Clock.{ticked};
 ghost use Rattle.com_model.specs.Ends.{limit};
 ghost use Rattle.com_model.specs.Frames.{Actor as Acting};
-ghost use Rattle.com_model.specs.Lists.{number_or_zero};
+ghost use Rattle.com_model.specs.Lists.{number_or_zero, where_true};
 ghost use Rattle.com_model.specs.Tables.{lanes};
 ghost use Rattle.com_reference_moves.specs.declared.moves.Move.{Move};
 ghost use Rattle.com_reference_moves.specs.Steps.{IsWhole, moves_stepped, movings_of};
@@ -55,8 +55,9 @@ use com_parts::Change;
 use com_reference_moves::EntrySetting;
 use com_scene::{ActedEntry, Actor};
 use com_servant::Servant;
-use com_turns::{Doing, Turn, actor_after, is_filtered, next_turn};
+use com_turns::{Bench, Turn, actor_after, is_filtered, next_turn};
 use std::alloc::Global;
+use std::mem;
 
 // What an entry's change of the parts rests on, as it is before it: who acts in the lane after the entry, and
 // whether the caller's lane of the call of a Verdict has a message filter.
@@ -519,7 +520,7 @@ impl Running {
         &mut self,
         scenario: &Scenario,
         lane: u32,
-        made: Turn,
+        turn: &mut Turn,
         outcome: &mut Option<Outcome>,
         entry: &mut Entry,
     ) -> Result<(), Memory>
@@ -533,31 +534,26 @@ impl Running {
         requires named { IsNamed self.old.parts.objects self.old.parts.calls }
         requires room { self.old.parts.entries < limit scenario.now }
         requires turn { IsTurn (seen_by scenario.now self.old.parts self.old.fallen.objects self.old.clock)
-            (books_held self.old.ledger) lane outcome.old made }
+            (books_held self.old.ledger) lane outcome.old turn.old }
         ensures few { Few self.new.parts }
         ensures sound { Sound self.new.parts self.new.entered.counts }
         ensures next { OnOk result (TurnsTo scenario.now lane self.old self.new entry.new) }
         ensures err { OnErr result (IsAsBefore self.old self.new) }
         ensures step { OnErr result (outcome.new ≡ outcome.old) }
     {
-        let Turn { acting, doing } = made;
-        let Doing {
-            deed,
-            mut enclosed,
-            carried,
-        } = doing;
-        *entry = Entry { lane, deed };
+        entry.lane = lane;
+        mem::swap(&mut entry.deed, &mut turn.doing.deed);
         self.make(
             scenario,
-            acting,
+            turn.acting,
             outcome,
-            &mut enclosed,
-            carried.as_slice(),
+            &mut turn.doing.enclosed,
+            turn.doing.carried.as_slice(),
             entry,
         )
     }
 
-    // The turn of a lane, where it can step.
+    // Makes the turn of a lane, in the place of another, where the lane can step; whether it can.
     #[tactic(auto, using(crate::proofs::Whole::bodies_whole))]
     fn turn_of(
         &self,
@@ -565,19 +561,20 @@ impl Running {
         alloc: Global,
         lane: u32,
         servants: &mut Vec<Box<dyn Servant + Send>>,
-        step: &mut Option<Outcome>,
-    ) -> Result<Option<Turn>, Memory>
-        requires none { step.old ≡ None }
+        bench: &mut Bench,
+        turn: &mut Turn,
+    ) -> Result<bool, Memory>
+        requires none { bench.old.step ≡ None }
         requires sound { Sound self.now.parts self.now.entered.counts }
         requires core { IsWholeCore (kept_of scenario.now self.now) }
         requires room { self.now.parts.entries < limit scenario.now }
         requires row { map kind_of servants.old.items ≡ row }
-        ensures whole { IsWhole step.new }
+        ensures whole { IsWhole bench.new.step }
         ensures named { IsNamed self.now.parts.objects self.now.parts.calls }
         ensures turn { IfOk result (λ made. IsNext
             (seen_by scenario.now self.now.parts self.now.fallen.objects self.now.clock)
-            (books_held self.now.ledger) lane step.new made) }
-        ensures can { IfOk result (λ made. is_some made
+            (books_held self.now.ledger) lane bench.new.step (where_true made turn.new)) }
+        ensures can { IfOk result (λ made. made
             ≡ can_step_in scenario.now (core_state (kept_of scenario.now self.now)) lane) }
         ensures row { map kind_of servants.new.items ≡ row }
         ensures served { OnOk result (map stepped servants.new.items
@@ -585,11 +582,53 @@ impl Running {
             self.now.parts self.now.fallen.objects self.now.clock) lane) (map stepped servants.old.items)) }
     {
         let view = self.view(scenario);
-        next_turn(&view, &self.ledger, alloc, lane, servants, step)
+        next_turn(&view, &self.ledger, alloc, lane, servants, bench, turn)
+    }
+
+    // Tries a lane by its turn, which is that of a body or of a script. It has a function of its own, since a turn is
+    // wide: an entry that the rules give would make room for it.
+    #[inline(never)]
+    #[tactic(auto, using(crate::proofs::Shown::as_before))]
+    fn step_by_turn(
+        &mut self,
+        scenario: &Scenario,
+        alloc: Global,
+        lane: u32,
+        servants: &mut Vec<Box<dyn Servant + Send>>,
+        bench: &mut Bench,
+        entry: &mut Entry,
+    ) -> Result<bool, Memory>
+        requires none { bench.old.step ≡ None }
+        requires sound { Sound self.old.parts self.old.entered.counts }
+        requires few { Few self.old.parts }
+        requires core { IsWholeCore (kept_of scenario.now self.old) }
+        requires ties { Ties scenario.now (core_state (kept_of scenario.now self.old)) self.old.ledger }
+        requires above { 1 ≤ lane }
+        requires below { lane ≤ lanes scenario.now }
+        requires room { self.old.parts.entries < limit scenario.now }
+        requires row { map kind_of servants.old.items ≡ row }
+        ensures few { Few self.new.parts }
+        ensures sound { Sound self.new.parts self.new.entered.counts }
+        ensures can { IfOk result (λ can. can
+            ≡ can_step_in scenario.now (core_state (kept_of scenario.now self.old)) lane) }
+        ensures next { IfOk result (λ can. TriesTo scenario.now lane can self.old self.new entry.new) }
+        ensures err { OnErr result (IsAsBefore self.old self.new) }
+        ensures row { map kind_of servants.new.items ≡ row }
+        ensures served { OnOk result (map stepped servants.new.items
+            ≡ one_served (kind_seen (seen_by scenario.now
+            self.old.parts self.old.fallen.objects self.old.clock) lane) (map stepped servants.old.items)) }
+    {
+        let mut turn = Turn::nothing(alloc);
+        let made = self.turn_of(scenario, alloc, lane, servants, bench, &mut turn)?;
+        if !made {
+            return Ok(false);
+        }
+        self.make_turn(scenario, lane, &mut turn, &mut bench.step, entry)?;
+        Ok(true)
     }
 
     /// Tries a lane: makes its next entry, in the place of the entry before it, where the lane can step; else
-    /// nothing has changed. Whether it did. The step of the entry before, which lies in `step`, makes room for
+    /// nothing has changed. Whether it did. The step of the entry before, which lies on the bench, makes room for
     /// that of this one. The only error is want of memory.
     #[tactic(auto, using(crate::proofs::Shown::as_before))]
     pub fn step(
@@ -598,7 +637,7 @@ impl Running {
         alloc: Global,
         lane: u32,
         servants: &mut Vec<Box<dyn Servant + Send>>,
-        step: &mut Option<Outcome>,
+        bench: &mut Bench,
         entry: &mut Entry,
     ) -> Result<bool, Memory>
         requires sound { Sound self.old.parts self.old.entered.counts }
@@ -620,15 +659,11 @@ impl Running {
             ≡ one_served (kind_seen (seen_by scenario.now
             self.old.parts self.old.fallen.objects self.old.clock) lane) (map stepped servants.old.items)) }
     {
-        forget(step);
+        forget(&mut bench.step);
         if self.is_ruled(scenario, lane) {
-            return self.step_by_rule(scenario, alloc, lane, step, entry);
+            return self.step_by_rule(scenario, alloc, lane, &mut bench.step, entry);
         }
-        let Some(made) = self.turn_of(scenario, alloc, lane, servants, step)? else {
-            return Ok(false);
-        };
-        self.make_turn(scenario, lane, made, step, entry)?;
-        Ok(true)
+        self.step_by_turn(scenario, alloc, lane, servants, bench, entry)
     }
 
     /// Makes the clock's entry, where the clock goes on, in the place of the entry before it. The only error is

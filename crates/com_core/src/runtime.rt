@@ -28,6 +28,7 @@ use com_model::{Counts, Deed, Entry, Scenario};
 use com_runtime::{CommitError, Jobs, Next, Runtime, Standing};
 use com_schedule::Tries;
 use com_servant::Servant;
+use com_turns::Bench;
 use com_view::{Next as ViewNext, standing_of};
 use std::alloc::Global;
 use std::marker::Model;
@@ -43,9 +44,9 @@ pub struct Core {
     scenario: Arc<Scenario>,
     count: u32,
     running: Running,
-    // The step of the entry that was made last, if it was somebody's. It lies here from step to step, since
-    // it is wide, and nobody reads it between two entries.
-    step: Option<Outcome>,
+    // The step of the entry that was made last, and the job of which it was made. They lie here from step to
+    // step, since they are wide, and nobody reads them between two entries.
+    bench: Bench,
     // The entry that was made last, in one place from its making to its line. It means nothing before the
     // first one, after one that was taken, and where none was made.
     made: Entry,
@@ -99,7 +100,7 @@ impl Core {
             scenario,
             count,
             running,
-            step: None,
+            bench: Bench::new(alloc)?,
             made: no_entry(),
         })
     }
@@ -218,7 +219,7 @@ impl Core {
             alloc,
             lane,
             servants,
-            &mut self.step,
+            &mut self.bench,
             &mut self.made,
         )
     }
@@ -405,7 +406,13 @@ impl Core {
         ensures err { OnErr result (self.new.core ≡ self.old.core) }
         ensures scenario { self.new.core.scenario ≡ self.old.core.scenario }
     {
-        self.running.advance(&self.scenario, alloc, lane, &mut self.step, &mut self.made)
+        self.running.advance(
+            &self.scenario,
+            alloc,
+            lane,
+            &mut self.bench.step,
+            &mut self.made,
+        )
     }
 
     /// Makes the next entry of a lane that needs no servant, or of lane 0 the clock's entry, where the clock

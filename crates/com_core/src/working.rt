@@ -135,11 +135,11 @@ impl Running {
         ensures err { OnErr result (IsAsBefore self.old self.new) }
         ensures back { IfErr result (λ step. step ≡ outcome) }
     {
-        let Ok(made) = self.given_turn_of(scenario, alloc, lane, &outcome) else {
+        let Ok(mut turn) = self.given_turn_of(scenario, alloc, lane, &outcome) else {
             return Err(outcome);
         };
         let mut step = Some(outcome);
-        match self.make_turn(scenario, lane, made, &mut step, entry) {
+        match self.make_turn(scenario, lane, &mut turn, &mut step, entry) {
             Ok(()) => Ok(()),
             Err(_) => Err(given_back(step)),
         }
@@ -186,14 +186,15 @@ impl Running {
         }
     }
 
-    // The turn of a lane that can step, in which no body is innermost.
+    // Makes the turn of a lane that can step, in which no body is innermost, in the place of another.
     fn own_turn_of(
         &self,
         scenario: &Scenario,
         alloc: Global,
         lane: u32,
         step: &mut Option<Outcome>,
-    ) -> Result<Turn, Memory>
+        turn: &mut Turn,
+    ) -> Result<(), Memory>
         requires none { step.old ≡ None }
         requires core { IsWholeCore (kept_of scenario.now self.now) }
         requires body { is_body (first (openers_at self.now.parts.lanes lane)) ≡ false }
@@ -201,14 +202,48 @@ impl Running {
         requires room { self.now.parts.entries < limit scenario.now }
         ensures whole { IsWhole step.new }
         ensures named { IsNamed self.now.parts.objects self.now.parts.calls }
-        ensures turn { IfOk result (λ made. IsTurn
+        ensures turn { OnOk result (IsTurn
             (seen_by scenario.now self.now.parts self.now.fallen.objects self.now.clock)
-            (books_held self.now.ledger) lane step.new made) }
+            (books_held self.now.ledger) lane step.new turn.new) }
     {
         let view = self.view(scenario);
-        let turn = own_turn(&view, &self.ledger, alloc, lane, step)?;
-        let Some(made) = turn else { unreachable!() };
-        Ok(made)
+        let made = own_turn(&view, &self.ledger, alloc, lane, step, turn)?;
+        if made {
+            return Ok(());
+        }
+        unreachable!()
+    }
+
+    // Makes the next entry of such a lane by its turn, which is that of a script. It has a function of its own, since a
+    // turn is wide.
+    #[inline(never)]
+    #[tactic(auto, using(crate::proofs::Shown::as_before))]
+    fn advance_by_turn(
+        &mut self,
+        scenario: &Scenario,
+        alloc: Global,
+        lane: u32,
+        step: &mut Option<Outcome>,
+        entry: &mut Entry,
+    ) -> Result<(), Memory>
+        requires none { step.old ≡ None }
+        requires sound { Sound self.old.parts self.old.entered.counts }
+        requires few { Few self.old.parts }
+        requires core { IsWholeCore (kept_of scenario.now self.old) }
+        requires ties { Ties scenario.now (core_state (kept_of scenario.now self.old)) self.old.ledger }
+        requires above { 1 ≤ lane }
+        requires below { lane ≤ lanes scenario.now }
+        requires body { is_body (first (openers_at self.old.parts.lanes lane)) ≡ false }
+        requires can { can_step_in scenario.now (core_state (kept_of scenario.now self.old)) lane ≡ true }
+        requires room { self.old.parts.entries < limit scenario.now }
+        ensures few { Few self.new.parts }
+        ensures sound { Sound self.new.parts self.new.entered.counts }
+        ensures next { OnOk result (TurnsTo scenario.now lane self.old self.new entry.new) }
+        ensures err { OnErr result (IsAsBefore self.old self.new) }
+    {
+        let mut turn = Turn::nothing(alloc);
+        self.own_turn_of(scenario, alloc, lane, step, &mut turn)?;
+        self.make_turn(scenario, lane, &mut turn, step, entry)
     }
 
     /// Makes the next entry of a lane that can step, in which no body is innermost, in the place of another
@@ -241,7 +276,6 @@ impl Running {
         if self.is_ruled(scenario, lane) {
             return self.advance_by_rule(scenario, alloc, lane, step, entry);
         }
-        let made = self.own_turn_of(scenario, alloc, lane, step)?;
-        self.make_turn(scenario, lane, made, step, entry)
+        self.advance_by_turn(scenario, alloc, lane, step, entry)
     }
 }

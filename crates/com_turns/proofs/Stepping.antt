@@ -298,9 +298,11 @@ turn_ruled w b l true d t h m e p i k =
     }
 turn_ruled w b l false d t h m e p i k = absurd cc
 
-pub none_ruled : (w : Seen) (b : Books) (l : ℕ) (made : Bool) (d : Deed) → IsNext w b l None (turn_made made d) → made ≡ false → lane_next w.scenario (sight_by w b) l ≡ None
-none_ruled w b l true d h m = absurd cc
-none_ruled w b l false d h m = h
+-- The same with the turn in the place of another.
+pub made_ruled : (w : Seen) (b : Books) (l : ℕ) (made : Bool) (d : Deed) (t : Turn) → IsNext w b l None (turn_made made d) → t.doing.deed ≡ d
+    → acting_of t.acting ≡ Nobody → t.doing.enclosed ≡ enclosed.Nothing → t.doing.carried ≡ [] → IsNext w b l None (where_true made t)
+made_ruled w b l true d t h e p i k = turn_ruled w b l true d t h refl e p i k
+made_ruled w b l false d t h e p i k = h
 
 -- ---- a body's turn
 

@@ -16,5 +16,6 @@ pub use after::{actor_after, is_filtered};
 pub use com_base::Memory;
 pub use com_rules::Doing;
 pub use laws::{nobody_acts_for_the_clock, reads_the_turn};
+pub use steps::Bench;
 pub use turns::{Turn, given_turn, is_ruled, next_turn, own_turn, rule_turn};
 pub use work::{fits_work, same_cells, work_of};

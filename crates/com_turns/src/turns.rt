@@ -5,7 +5,7 @@ ghost use Rattle.com_calls.specs.declared.rows.Enclosed.TheVariants.{Nothing};
 ghost use Rattle.com_model.specs.declared.keeps.Opener.TheVariants.{Enters};
 ghost use Rattle.com_model.specs.Deeds.{deed_of};
 ghost use Rattle.com_model.specs.Frames.{Nobody, is_leave};
-ghost use Rattle.com_model.specs.Lists.{first};
+ghost use Rattle.com_model.specs.Lists.{first, where_true};
 ghost use Rattle.com_model.specs.Rules.{is_script_turn, lane_next, next_by, rule_final, top};
 ghost use Rattle.com_model.specs.Tables.{lane_sort, lanes};
 ghost use Rattle.com_model.specs.Openers.{is_body};
@@ -19,7 +19,7 @@ ghost use Rattle.com_turns.specs.Turns.{kind_seen, turn_made};
 ghost use Rattle.com_turns.specs.Work.{BodiesWork};
 ghost use Rattle.com_view.specs.Seen.{bare, sight_by};
 
-use crate::steps::{body_step, script_step};
+use crate::steps::{Bench, body_step, script_step};
 use com_base::{Memory, Rows};
 use com_body::{Action, Outcome};
 use com_model::{Deed, Opener};
@@ -39,6 +39,17 @@ pub struct Turn {
     pub doing: Doing,
 }
 
+impl Turn {
+    /// What stands in the place of a turn before there is one.
+    pub fn nothing(alloc: Global) -> Turn
+        ensures nobody { acting_of result.acting ≡ Nobody }
+        ensures enclosed { result.doing.enclosed ≡ Nothing }
+        ensures carried { result.doing.carried ≡ [] }
+    {
+        by_rule(alloc, Deed::End)
+    }
+}
+
 // An entry that is nobody's step.
 fn by_rule(alloc: Global, deed: Deed) -> Turn
     ensures deed { result.doing.deed ≡ deed }
@@ -56,7 +67,7 @@ fn by_rule(alloc: Global, deed: Deed) -> Turn
     }
 }
 
-// The turn of whoever goes on by a step in a lane.
+// The turn of whoever goes on by a step in a lane, in the place of another.
 fn step_turn<B: Found>(
     view: &View<'_>,
     books: &B,
@@ -64,17 +75,24 @@ fn step_turn<B: Found>(
     lane: u32,
     acting: Actor,
     outcome: &Outcome,
-) -> Result<Turn, Memory>
+    turn: &mut Turn,
+) -> Result<(), Memory>
     requires room { HasRoom view.now (B.books books.now) }
     requires acts { ActsFit view.now }
     requires steps { Steps view.now lane (acting_of acting) outcome.now }
     requires next { lane_next view.now.scenario (sight_by view.now (B.books books.now)) lane
         ≡ Some (deed_of view.now.scenario (sight_by view.now (B.books books.now)) lane
         outcome.now.action) }
-    ensures turn { IfOk result (λ made. IsTurn view.now (B.books books.now) lane (Some outcome.now) made) }
+    ensures turn { OnOk result (IsTurn view.now (B.books books.now) lane (Some outcome.now) turn.new) }
 {
-    let doing = act(view, books, alloc, lane, &outcome.action)?;
-    Ok(Turn { acting, doing })
+    match act(view, books, alloc, lane, &outcome.action) {
+        Ok(doing) => {
+            turn.acting = acting;
+            turn.doing = doing;
+            Ok(())
+        }
+        Err(error) => Err(error),
+    }
 }
 
 // Whether a step leaves.
@@ -95,7 +113,8 @@ fn own_step<B: Found>(
     alloc: Global,
     lane: u32,
     step: &mut Option<Outcome>,
-) -> Result<Turn, Memory>
+    turn: &mut Turn,
+) -> Result<(), Memory>
     requires none { step.old ≡ None }
     requires room { HasRoom view.now (B.books books.now) }
     requires acts { ActsFit view.now }
@@ -103,15 +122,24 @@ fn own_step<B: Found>(
         (top (bare view.now) lane) ((bare view.now).over lane) ≡ true }
     requires no_final { rule_final (sight_by view.now (B.books books.now)) lane ≡ None }
     ensures whole { IsWhole step.new }
-    ensures turn { IfOk result (λ made. IsTurn view.now (B.books books.now) lane step.new made) }
+    ensures turn { OnOk result (IsTurn view.now (B.books books.now) lane step.new turn.new) }
 {
     script_step(view, alloc, lane, step)?;
     let Some(outcome) = step else { unreachable!() };
     if is_leave(&outcome.action) {
         *step = None;
-        return Ok(by_rule(alloc, script_over(view, lane)));
+        *turn = by_rule(alloc, script_over(view, lane));
+        return Ok(());
     }
-    step_turn(view, books, alloc, lane, Actor::Script { lane }, outcome)
+    step_turn(
+        view,
+        books,
+        alloc,
+        lane,
+        Actor::Script { lane },
+        outcome,
+        turn,
+    )
 }
 
 // The turn of a lane whose script acts. The Final of a dying object that the lane serves comes before it. It
@@ -123,19 +151,21 @@ fn script_turn<B: Found>(
     alloc: Global,
     lane: u32,
     step: &mut Option<Outcome>,
-) -> Result<Turn, Memory>
+    turn: &mut Turn,
+) -> Result<(), Memory>
     requires none { step.old ≡ None }
     requires room { HasRoom view.now (B.books books.now) }
     requires acts { ActsFit view.now }
     requires script { is_script_turn (lane_sort view.now.scenario lane)
         (top (bare view.now) lane) ((bare view.now).over lane) ≡ true }
     ensures whole { IsWhole step.new }
-    ensures turn { IfOk result (λ made. IsTurn view.now (B.books books.now) lane step.new made) }
+    ensures turn { OnOk result (IsTurn view.now (B.books books.now) lane step.new turn.new) }
 {
     if let Some(deed) = view.finals(lane) {
-        return Ok(by_rule(alloc, deed));
+        *turn = by_rule(alloc, deed);
+        return Ok(());
     }
-    own_step(view, books, alloc, lane, step)
+    own_step(view, books, alloc, lane, step, turn)
 }
 
 /// Whether neither a body nor a script acts in a lane, so that what it does is by the rules alone.
@@ -174,40 +204,44 @@ fn ruled_turn<B: Found>(
     books: &B,
     alloc: Global,
     lane: u32,
-) -> Result<Option<Turn>, Memory>
+    turn: &mut Turn,
+) -> Result<bool, Memory>
     requires body { is_body (top (bare view.now) lane) ≡ false }
     requires script { is_script_turn (lane_sort view.now.scenario lane)
         (top (bare view.now) lane) ((bare view.now).over lane) ≡ false }
-    ensures turn { IfOk result (λ made. IsNext view.now (B.books books.now) lane None made) }
+    ensures turn { IfOk result (λ made. IsNext view.now (B.books books.now) lane None
+        (where_true made turn.new)) }
 {
     let mut deed = Deed::End;
     let made = rule_turn(view, books, alloc, lane, &mut deed)?;
-    if made {
-        return Ok(Some(by_rule(alloc, deed)));
-    }
-    Ok(None)
+    *turn = by_rule(alloc, deed);
+    Ok(made)
 }
 
-/// The turn of a lane in which no body is innermost, and none where it makes no entry as things stand. Where
-/// the lane's script makes the entry, its step is put in `step`. The only error is want of memory.
+/// Makes the turn of a lane in which no body is innermost, in the place of another; whether it makes an entry as
+/// things stand. Where the lane's script makes the entry, its step is put in `step`. The only error is want of
+/// memory.
 pub fn own_turn<B: Found>(
     view: &View<'_>,
     books: &B,
     alloc: Global,
     lane: u32,
     step: &mut Option<Outcome>,
-) -> Result<Option<Turn>, Memory>
+    turn: &mut Turn,
+) -> Result<bool, Memory>
     requires none { step.old ≡ None }
     requires room { HasRoom view.now (B.books books.now) }
     requires acts { ActsFit view.now }
     requires body { is_body (top (bare view.now) lane) ≡ false }
     ensures whole { IsWhole step.new }
-    ensures turn { IfOk result (λ made. IsNext view.now (B.books books.now) lane step.new made) }
+    ensures turn { IfOk result (λ made. IsNext view.now (B.books books.now) lane step.new
+        (where_true made turn.new)) }
 {
     if !view.is_script_turn(lane) {
-        return ruled_turn(view, books, alloc, lane);
+        return ruled_turn(view, books, alloc, lane, turn);
     }
-    Ok(Some(script_turn(view, books, alloc, lane, step)?))
+    script_turn(view, books, alloc, lane, step, turn)?;
+    Ok(true)
 }
 
 /// The turn of a lane in which a body is innermost, whose step was computed before. The only error is want of
@@ -245,20 +279,21 @@ fn body_turn<B: Found>(
     alloc: Global,
     lane: u32,
     servants: &mut Vec<Box<dyn Servant + Send>>,
-    step: &mut Option<Outcome>,
-) -> Result<Option<Turn>, Memory>
-    requires none { step.old ≡ None }
+    bench: &mut Bench,
+    turn: &mut Turn,
+) -> Result<(), Memory>
+    requires none { bench.old.step ≡ None }
     requires room { HasRoom view.now (B.books books.now) }
     requires acts { ActsFit view.now }
     requires body { is_body (top (bare view.now) lane) ≡ true }
     requires bodies { BodiesWhole view.now.scene }
     requires works { BodiesWork view.now }
     requires row { map kind_of servants.old.items ≡ row }
-    ensures whole { IsWhole step.new }
+    ensures whole { IsWhole bench.new.step }
     ensures row { map kind_of servants.new.items ≡ row }
-    ensures turn { IfOk result (λ made. IsNext view.now (B.books books.now) lane step.new made) }
-    ensures deed { IfOk result (λ made. 1 ≤ lane → lane ≤ lanes view.now.scenario →
-        deed_made made ≡ next_by view.now.scenario (sight_by view.now (B.books books.now))
+    ensures turn { OnOk result (IsTurn view.now (B.books books.now) lane bench.new.step turn.new) }
+    ensures deed { OnOk result (1 ≤ lane → lane ≤ lanes view.now.scenario →
+        Some turn.new.doing.deed ≡ next_by view.now.scenario (sight_by view.now (B.books books.now))
         (lane_sort view.now.scenario lane) lane) }
     ensures served { OnOk result (map stepped servants.new.items
         ≡ one_served (kind_seen view.now lane) (map stepped servants.old.items)) }
@@ -266,48 +301,55 @@ fn body_turn<B: Found>(
     let Some(Opener::Enters { call, object, .. }) = view.lanes.top(lane) else {
         unreachable!()
     };
-    body_step(view, alloc, call, object, servants, step)?;
-    let Some(outcome) = step else { unreachable!() };
-    let turn = step_turn(
+    body_step(view, alloc, call, object, servants, bench)?;
+    let Some(outcome) = &bench.step else {
+        unreachable!()
+    };
+    step_turn(
         view,
         books,
         alloc,
         lane,
         Actor::Body { call, object },
         outcome,
-    )?;
-    Ok(Some(turn))
+        turn,
+    )
 }
 
-/// The turn of a lane, and none where it makes no entry as things stand: the entry that the rules give the
-/// lane, who makes it by a step, and what goes with it. The step is put in `step`. Where a body is innermost
-/// in the lane, the servant of its class's kind computes its step, and has made one more then. The only error
-/// is want of memory.
+/// Makes the turn of a lane, in the place of another; whether it makes an entry as things stand: the entry that the
+/// rules give the lane, who makes it by a step, and what goes with it. The step is put on the bench. Where a body is
+/// innermost in the lane, the servant of its class's kind computes its step, and has made one more then. The only
+/// error is want of memory.
 pub fn next_turn<B: Found>(
     view: &View<'_>,
     books: &B,
     alloc: Global,
     lane: u32,
     servants: &mut Vec<Box<dyn Servant + Send>>,
-    step: &mut Option<Outcome>,
-) -> Result<Option<Turn>, Memory>
-    requires none { step.old ≡ None }
+    bench: &mut Bench,
+    turn: &mut Turn,
+) -> Result<bool, Memory>
+    requires none { bench.old.step ≡ None }
     requires room { HasRoom view.now (B.books books.now) }
     requires acts { ActsFit view.now }
     requires bodies { BodiesWhole view.now.scene }
     requires works { BodiesWork view.now }
     requires row { map kind_of servants.old.items ≡ row }
-    ensures whole { IsWhole step.new }
+    ensures whole { IsWhole bench.new.step }
     ensures row { map kind_of servants.new.items ≡ row }
-    ensures turn { IfOk result (λ made. IsNext view.now (B.books books.now) lane step.new made) }
+    ensures turn { IfOk result (λ made. IsNext view.now (B.books books.now) lane bench.new.step
+        (where_true made turn.new)) }
     ensures deed { IfOk result (λ made. 1 ≤ lane → lane ≤ lanes view.now.scenario →
-        deed_made made ≡ next_by view.now.scenario (sight_by view.now (B.books books.now))
+        deed_made (where_true made turn.new) ≡ next_by view.now.scenario (sight_by view.now (B.books books.now))
         (lane_sort view.now.scenario lane) lane) }
     ensures served { OnOk result (map stepped servants.new.items
         ≡ one_served (kind_seen view.now lane) (map stepped servants.old.items)) }
 {
     match view.lanes.top(lane) {
-        Some(Opener::Enters { .. }) => body_turn(view, books, alloc, lane, servants, step),
-        _ => own_turn(view, books, alloc, lane, step),
+        Some(Opener::Enters { .. }) => {
+            body_turn(view, books, alloc, lane, servants, bench, turn)?;
+            Ok(true)
+        }
+        _ => own_turn(view, books, alloc, lane, &mut bench.step, turn),
     }
 }

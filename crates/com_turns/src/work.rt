@@ -1,6 +1,6 @@
 //! The job of a body.
 
-ghost use Rattle.std.specs.Prelude.{◌≡◌, ◌↔◌, IfOk, IsTrue, Some};
+ghost use Rattle.std.specs.Prelude.{◌≡◌, ◌↔◌, IfOk, IsTrue, OnOk, Some};
 ghost use Rattle.com_reference_moves.specs.Steps.{BodiesWhole};
 ghost use Rattle.com_scene.specs.Kept.{HasSlots};
 ghost use Rattle.com_servant.specs.Steps.{IsOfItsClass};
@@ -9,21 +9,75 @@ ghost use Rattle.com_turns.specs.Work.{HasWork, IsWork, work_seen};
 
 use crate::frames::{is_first_frame, same_frame};
 use com_base::Memory;
-use com_body::{Cells, Frame, Job};
+use com_body::{Cells, Frame, Job, Native};
 use com_scene::Actor;
 use com_view::View;
 use std::alloc::Global;
 
-// A copy of the frame of a body.
-fn frame_of(view: &View<'_>, alloc: Global, call: u32, object: u32) -> Result<Frame, Memory>
+/// A job before there is one: frames of bodies are copied into the memory of its frame. The only error is want of
+/// memory.
+pub(crate) fn no_job(alloc: Global) -> Result<Job, Memory>
+    ensures whole { IfOk result (λ job. HasSlots job.frame) }
+{
+    Ok(Job {
+        kind: Native::Bodies,
+        class: 0,
+        iface: 0,
+        method: 0,
+        frame: Frame::enter(alloc, &[])?,
+        cells: Cells::new(),
+    })
+}
+
+// Makes a frame a copy of that of a body. The only error is want of memory.
+fn fill_frame(
+    view: &View<'_>,
+    alloc: Global,
+    call: u32,
+    object: u32,
+    frame: &mut Frame,
+) -> Result<(), Memory>
     requires bodies { BodiesWhole view.now.scene }
-    ensures whole { IfOk result (λ frame. HasSlots frame) }
-    ensures frame { IfOk result (λ frame. frame ≡ body_at view.now.scene call) }
+    ensures whole { OnOk result (HasSlots frame.new) }
+    ensures frame { OnOk result (frame.new ≡ body_at view.now.scene call) }
 {
     match view.scene.frame(Actor::Body { call, object }) {
-        Some(frame) => frame.copy(alloc),
-        None => Frame::enter(alloc, &[]),
+        Some(own) => frame.copy_from(own),
+        None => {
+            *frame = Frame::enter(alloc, &[])?;
+            Ok(())
+        }
     }
+}
+
+/// Makes a job that of the body of a call on an object, in the memory that it has. The only error is want of memory:
+/// then it is some job.
+pub(crate) fn fill_work(
+    view: &View<'_>,
+    alloc: Global,
+    call: u32,
+    object: u32,
+    job: &mut Job,
+) -> Result<(), Memory>
+    requires bodies { BodiesWhole view.now.scene }
+    requires work { HasWork view.now call object }
+    ensures job { OnOk result (work_seen view.now call object ≡ Some job.new) }
+    ensures class { OnOk result (IsOfItsClass view.now.scenario.classes job.new) }
+    ensures whole { OnOk result (HasSlots job.new.frame) }
+{
+    let class = view.objects.class(object);
+    let Some(declared) = view.scenario.classes.class(class) else {
+        unreachable!()
+    };
+    let Some(issue) = view.calls.issue(call) else {
+        unreachable!()
+    };
+    job.kind = declared.native;
+    job.class = class;
+    job.iface = issue.iface;
+    job.method = issue.method;
+    job.cells = view.scene.cells(object);
+    fill_frame(view, alloc, call, object, &mut job.frame)
 }
 
 /// The job of the body of a call on an object: on copies of the body's frame and the object's cells. The only
@@ -35,22 +89,9 @@ pub fn work_of(view: &View<'_>, alloc: Global, call: u32, object: u32) -> Result
     ensures class { IfOk result (λ job. IsOfItsClass view.now.scenario.classes job) }
     ensures whole { IfOk result (λ job. HasSlots job.frame) }
 {
-    let class = view.objects.class(object);
-    let Some(declared) = view.scenario.classes.class(class) else {
-        unreachable!()
-    };
-    let Some(issue) = view.calls.issue(call) else {
-        unreachable!()
-    };
-    let frame = frame_of(view, alloc, call, object)?;
-    Ok(Job {
-        kind: declared.native,
-        class,
-        iface: issue.iface,
-        method: issue.method,
-        frame,
-        cells: view.scene.cells(object),
-    })
+    let mut job = no_job(alloc)?;
+    fill_work(view, alloc, call, object, &mut job)?;
+    Ok(job)
 }
 
 // Whether a frame is that of a body.
